@@ -1,7 +1,7 @@
 // Archives for C and Rust, on plain numbers and bytes: for the benchmark, and for the test with a buffer of more addresses than a test program can
 // hold.
+use archive_file::ArchiveOutcome;
 use archive_file::Opened;
-use archive_file::Outcome;
 
 // The CRC over long inputs.
 #[no_mangle]
@@ -31,9 +31,9 @@ pub extern "C" fn archive_bench_append_at(
 ) -> u64 {
     let answer = archive_file::append_at(buffer, n as usize, bytes, time, loose != 0);
     match answer {
-        Outcome::Done => 0,
-        Outcome::Damaged(k) => packed(12, k),
-        Outcome::Refused(why) => packed(base_refusal::number(why), 0),
+        ArchiveOutcome::Done => 0,
+        ArchiveOutcome::Damaged(k) => packed(12, k),
+        ArchiveOutcome::Refused(why) => packed(base_refusal::number(why), 0),
     }
 }
 

@@ -16,11 +16,11 @@ use Rattle.archive_model.proofs.Buffers.{buffer-length, rows-in}
 use Rattle.archive_model.proofs.Exact.{sound-long}
 use Rattle.archive_model.proofs.Cursor.{written-verdict, blocks-of, is-exact, rows-fit, rows-few}
 use Rattle.archive_cut.specs.Cut.{firstRows, CutBlock}
-use Rattle.archive_cut.specs.Claims.{Remains, CutAgain, Undone, AtOneBlock, ZerosBehind}
+use Rattle.archive_cut.specs.Claims.{FirstRowsRemain, CutAgain, Undone, AtOneBlock, ZerosBehind}
 use Rattle.archive_cut.proofs.Blocks.{first-none, block-done}
 use Rattle.archive_cut.proofs.Cutting.{remaining, cut-is, cut-done, remaining-length, remaining-verdict, remaining-rows, cut-enough, cut-parts}
 
-pub remains : Remains
+pub remains : FirstRowsRemain
 remains m buffer z =
     let d = cut-done m buffer z in
     rw (d .is) (

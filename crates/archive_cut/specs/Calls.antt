@@ -1,9 +1,9 @@
 -- The results of the calls, as the model names them.
 use Prim.Native.Nat.{ℕ}
 use mathlib.Core.List.{List}
-use Rattle.archive_file.specs.declared.Taken.{Taken}
-use Rattle.archive_file.specs.Archive.{takenNumber}
+use Rattle.base_refusal.specs.declared.Outcome.{Outcome}
+use Rattle.base_refusal.specs.Number.{outcomeNumber}
 use Rattle.archive_cut.specs.Cut.{CutBlock}
 
-abbrev pub cutBlockResult : Taken → List ℕ → CutBlock
-cutBlockResult r after = record { number = takenNumber r; block = after }
+abbrev pub cutBlockResult : Outcome → List ℕ → CutBlock
+cutBlockResult r after = record { number = outcomeNumber r; block = after }

@@ -9,9 +9,9 @@ use Rattle.archive_model.specs.Append.{verdict, stored, blockAt}
 use Rattle.archive_model.specs.Claims.{afterAppends}
 use Rattle.archive_cut.specs.Cut.{cutOf, cutBlockOf}
 
--- Remains: after a cut, the buffer is an archive of the same length with exactly the first m rows.
-abbrev pub Remains : Type 0
-Remains =
+-- First rows remain: after a cut, the buffer is an archive of the same length with exactly the first m rows.
+abbrev pub FirstRowsRemain : Type 0
+FirstRowsRemain =
     (m : ℕ) (buffer : List ℕ) → cutOf m buffer .number ≡ 0
     → (verdict (cutOf m buffer .buffer) .number ≡ 0) × (rowsIn (cutOf m buffer .buffer) ≡ take m (rowsIn buffer))
     × (length (cutOf m buffer .buffer) ≡ length buffer)

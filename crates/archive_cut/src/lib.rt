@@ -1,7 +1,7 @@
 // A cut keeps the first rows of an archive: of the whole archive in its buffer, or of one block.
+use archive_file::ArchiveOutcome;
 use archive_file::Opened;
-use archive_file::Outcome;
-use archive_file::Taken;
+use base_refusal::Outcome;
 use base_refusal::Refusal;
 use block_layout::BLOCK_LENGTH;
 use block_layout::CELL_LENGTH;
@@ -48,48 +48,48 @@ fn shorten(block: &mut [u8], rows: usize)
 
 // Cuts one block to its first `rows` rows; it is all zero for none. Refused: 16 for a wrong length, 12 for a block that isn't sound or has fewer
 // rows; then it is unchanged.
-pub fn cut_block(block: &mut [u8], rows: usize) -> Taken
+pub fn cut_block(block: &mut [u8], rows: usize) -> Outcome
     ensures { λ r. ⌜ cutBlockResult r (now (block .exit)) ≡ cutBlockOf rows (now (block .entry)) ⌝ }
 {
     if block.len() != BLOCK_LENGTH {
-        return Taken::Refused(Refusal::Size);
+        return Outcome::Refused(Refusal::Size);
     }
     let used = archive_file::sound(block);
     if used == 0 {
-        return Taken::Refused(Refusal::Mismatch);
+        return Outcome::Refused(Refusal::Mismatch);
     }
     if used < rows {
-        return Taken::Refused(Refusal::Mismatch);
+        return Outcome::Refused(Refusal::Mismatch);
     }
     shorten(block, rows);
-    Taken::Done
+    Outcome::Done
 }
 
 // Cuts an archive to its first `rows` rows. Refused: 16, 12 with the position, 10 if it has fewer; then the buffer is unchanged.
-pub fn cut(buffer: &mut [u8], rows: usize) -> Outcome
+pub fn cut(buffer: &mut [u8], rows: usize) -> ArchiveOutcome
     ensures { λ r. ⌜ appendResult r (now (buffer .exit)) ≡ cutOf rows (now (buffer .entry)) ⌝ }
 {
     let opened = archive_file::open(buffer);
     match opened {
         Opened::Rows(n) => cut_from(buffer, n, rows),
-        Opened::Damaged(k) => Outcome::Damaged(k),
-        Opened::Refused(why) => Outcome::Refused(why),
+        Opened::Damaged(k) => ArchiveOutcome::Damaged(k),
+        Opened::Refused(why) => ArchiveOutcome::Refused(why),
     }
 }
 
 // The same for an archive of `n` rows.
-fn cut_from(buffer: &mut [u8], n: usize, rows: usize) -> Outcome
+fn cut_from(buffer: &mut [u8], n: usize, rows: usize) -> ArchiveOutcome
     requires { ⌜ (verdict (now buffer) .number ≡ 0) × (n ≡ length (rowsIn (now buffer))) ⌝ }
     ensures { λ r. ⌜ appendResult r (now (buffer .exit)) ≡ cutOf rows (now (buffer .entry)) ⌝ }
 {
     if n < rows {
-        return Outcome::Refused(Refusal::Argument);
+        return ArchiveOutcome::Refused(Refusal::Argument);
     }
     if n == rows {
-        return Outcome::Done;
+        return ArchiveOutcome::Done;
     }
     take_back(buffer, rows);
-    Outcome::Done
+    ArchiveOutcome::Done
 }
 
 // The same if it has more: the block in which the first `rows` rows end is cut, and the blocks after it are cleared.

@@ -22,8 +22,8 @@ use Rattle.archive_model.specs.Buffer.{Found, At, None, maxBlocks, maxRows, isW
 use Rattle.archive_model.specs.Append.{Opening, Appended, Feeding, refusedAppend, stored, found, verdict, openOf, isNext, blockAt, putRow, putRowOf, appendOf, appendAtOf, isStage, isScan, feedOf, rowAtOf}
 use Rattle.archive_model.proofs.Cursor.{cursor}
 use Rattle.archive_file.specs.declared.Opened.the-variants as opened
-use Rattle.archive_file.specs.declared.Outcome.{Outcome}
-use Rattle.archive_file.specs.declared.Outcome.the-variants.{Done, Damaged, Refused}
+use Rattle.archive_file.specs.declared.ArchiveOutcome.{ArchiveOutcome}
+use Rattle.archive_file.specs.declared.ArchiveOutcome.the-variants.{Done, Damaged, Refused}
 use Rattle.archive_file.specs.Archive.{openResult, appendResult, openFound}
 use Rattle.archive_file.specs.Private.{noRowFor, rowInBlock}
 
@@ -158,7 +158,7 @@ module _ (buffer : List ℕ) (n : ℕ) (r : Row) where
           rw (span, drop-drop blockLength (blockLength * k) buffer)
           (sym (append-assoc (take (blockLength * k) buffer) ys (drop (blockLength * k + blockLength) buffer)))
 
-      replaced-is : (out : Outcome) (ys : List ℕ) → appendResult out (with ys) ≡ replaced (appendResult out ys)
+      replaced-is : (out : ArchiveOutcome) (ys : List ℕ) → appendResult out (with ys) ≡ replaced (appendResult out ys)
       replaced-is Done ys = refl
       replaced-is (Damaged j) ys = refl
       replaced-is (Refused why) ys = refl
@@ -191,7 +191,7 @@ module _ (buffer : List ℕ) (n : ℕ) (r : Row) where
           by-next true false = ap (refusedAppend (checkOf (r .bytes)) 0) with-same
           by-next true true = ap stored (with-new (putRow n r block))
 
-      pub at-put : (out : Outcome) (ys : List ℕ)
+      pub at-put : (out : ArchiveOutcome) (ys : List ℕ)
           → appendResult out ys
           ≡ putRowOf (part (blockLength * k) (blockLength * k + blockLength - blockLength * k) buffer) n r
           → appendResult out (with ys) ≡ appendAtOf buffer n r

@@ -2,7 +2,7 @@
 use Prim.Native.Nat.{ℕ}
 use mathlib.Core.Bool.{Bool, cond}
 use mathlib.Core.List.{List}
-use Rattle.base_refusal.specs.Number.{numberOf}
+use Rattle.base_refusal.specs.Number.{numberOf, outcomeNumber}
 use Rattle.base_refusal.specs.declared.Refusal.the-variants.{Mismatch}
 use lib.Dec.{eqb}
 use lib.ListN.{length, replicate}
@@ -12,16 +12,14 @@ use Rattle.archive_model.specs.Buffer as buffer
 use Rattle.archive_model.specs.Append.{Opening, Appended, Feeding, ReadRow}
 use Rattle.archive_file.specs.declared.Opened.{Opened}
 use Rattle.archive_file.specs.declared.Opened.the-variants as opened
-use Rattle.archive_file.specs.declared.Outcome.{Outcome}
-use Rattle.archive_file.specs.declared.Outcome.the-variants as outcome
+use Rattle.archive_file.specs.declared.ArchiveOutcome.{ArchiveOutcome}
+use Rattle.archive_file.specs.declared.ArchiveOutcome.the-variants as outcome
 use Rattle.archive_file.specs.declared.Found.{Found}
 use Rattle.archive_file.specs.declared.Found.the-variants as found
 use Rattle.archive_file.specs.declared.RowAt.{RowAt}
 use Rattle.archive_file.specs.declared.Stage.{Stage}
 use Rattle.archive_file.specs.declared.Stage.the-variants as stage
 use Rattle.archive_file.specs.declared.Scan.{Scan}
-use Rattle.archive_file.specs.declared.Taken.{Taken}
-use Rattle.archive_file.specs.declared.Taken.the-variants as taken
 use Rattle.archive_file.specs.declared.Fed.{Fed}
 
 -- ---- results: the number, the position that goes with 12, and what else is returned
@@ -31,7 +29,7 @@ openResult (opened.Rows n) = record { number = 0; position = 0; rows = n }
 openResult (opened.Damaged k) = record { number = numberOf Mismatch; position = k; rows = 0 }
 openResult (opened.Refused why) = record { number = numberOf why; position = 0; rows = 0 }
 
-abbrev pub appendResult : Outcome → List ℕ → Appended
+abbrev pub appendResult : ArchiveOutcome → List ℕ → Appended
 appendResult outcome.Done after = record { number = 0; position = 0; buffer = after }
 appendResult (outcome.Damaged k) after = record { number = numberOf Mismatch; position = k; buffer = after }
 appendResult (outcome.Refused why) after = record { number = numberOf why; position = 0; buffer = after }
@@ -44,7 +42,7 @@ foundNumber found.Row = 0
 foundNumber (found.Refused why) = numberOf why
 
 -- a row as it is returned: its length, and 21 bytes
-pub record Shown : Type 0 where
+pub record ShownRow : Type 0 where
   pub number : ℕ
   pub len : ℕ
   pub bytes : List ℕ
@@ -52,7 +50,7 @@ pub record Shown : Type 0 where
   pub loose : Bool
 
 -- a row that a call returns, as the model names it
-abbrev pub readResult : RowAt → Shown
+abbrev pub readResult : RowAt → ShownRow
 readResult r = record {
   number = foundNumber (r .answer);
   len = r .len;
@@ -62,7 +60,7 @@ readResult r = record {
 }
 
 -- the row that was read, with the 21 bytes of its cell; all zero with a refusal
-abbrev pub rowShown : ReadRow → List ℕ → Shown
+abbrev pub rowShown : ReadRow → List ℕ → ShownRow
 rowShown a cell = record {
   number = a .number;
   len = length (a .row .bytes);
@@ -92,9 +90,5 @@ openFound (buffer.At k) n = record { number = numberOf Mismatch; position = k; r
 openFound buffer.None n = record { number = 0; position = 0; rows = n }
 
 -- the number of an answer; 0 for done
-abbrev pub takenNumber : Taken → ℕ
-takenNumber taken.Done = 0
-takenNumber (taken.Refused why) = numberOf why
-
 abbrev pub feedResult : Fed → Feeding
-feedResult r = record { number = takenNumber (r .answer); next = scanOf (r .next) }
+feedResult r = record { number = outcomeNumber (r .answer); next = scanOf (r .next) }

@@ -12,16 +12,16 @@ use Rattle.radio_erp1.specs.Subtelegram.{checkOf, isValid}
 use Rattle.block_layout.specs.Block.{blockCell}
 use Rattle.archive_model.specs.Row.{rowCell, rowIn, rowCount, isRow}
 use Rattle.archive_model.specs.Append.{Feeding, ReadRow, refusedAppend, noRow, cellRow}
-use Rattle.archive_file.specs.declared.Outcome.{Outcome}
+use Rattle.archive_file.specs.declared.ArchiveOutcome.{ArchiveOutcome}
 use Rattle.archive_file.specs.declared.Scan.{Scan}
 use Rattle.archive_file.specs.Archive.{appendResult, scanOf}
 
 -- a refused call leaves the scan unchanged
-abbrev pub keptWith : Scan → Refusal → Feeding
-keptWith s why = record { number = numberOf why; next = scanOf s }
+abbrev pub refusedScan : Scan → Refusal → Feeding
+refusedScan s why = record { number = numberOf why; next = scanOf s }
 
 -- a row for which there is no block is refused: with the check's number if the row is not valid, else with 6
-abbrev pub NoBlock : List ℕ → Outcome → Type 0
+abbrev pub NoBlock : List ℕ → ArchiveOutcome → Type 0
 NoBlock bytes r =
     (old : List ℕ)
     → appendResult r old

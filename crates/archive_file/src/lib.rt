@@ -1,4 +1,5 @@
 // Archive block files (document 02, A2): opens an archive, appends a row, reads a row. Every public function returns for buffers of any length.
+use base_refusal::Outcome;
 use base_refusal::Refusal;
 use block_layout::BLOCK_LENGTH;
 use block_layout::CELL_CAPACITY;
@@ -19,7 +20,7 @@ ghost use Rattle.archive_model.specs.Row.{rowLast, rowsHeader, blockNumber, row
 ghost use Rattle.archive_model.specs.Buffer as buffer;
 ghost use Rattle.archive_model.specs.Append as calls;
 ghost use Rattle.archive_file.specs.Archive.{openResult, appendResult, rowOf, readResult, rowShown, soundCount, stageOf, scanOf, openFound, feedResult};
-ghost use Rattle.archive_file.specs.Private.{keptWith, NoBlock, noRowFor, rowInBlock, isWritten, cellsFrom};
+ghost use Rattle.archive_file.specs.Private.{refusedScan, NoBlock, noRowFor, rowInBlock, isWritten, cellsFrom};
 
 // The largest number of blocks of an archive, and of rows.
 pub const MAX_BLOCKS: usize = 4294967296;
@@ -42,7 +43,7 @@ pub enum Opened {
 }
 
 // Whether a row was appended, or the position of the block that does not match.
-pub enum Outcome {
+pub enum ArchiveOutcome {
     Done,
     Damaged(usize),
     Refused(Refusal),
@@ -78,16 +79,10 @@ pub struct Scan {
     pub stage: Stage,
 }
 
-// Whether a piece was taken.
-pub enum Taken {
-    Done,
-    Refused(Refusal),
-}
-
 // The scan after a piece; with a refusal, the scan that was handed in.
 pub struct Fed {
     pub next: Scan,
-    pub answer: Taken,
+    pub answer: Outcome,
 }
 
 // ---- one block
@@ -245,7 +240,7 @@ impl Scan {
         }
         Fed {
             next: scan_blocks(self, blocks),
-            answer: Taken::Done,
+            answer: Outcome::Done,
         }
     }
 }
@@ -282,11 +277,11 @@ fn is_stage(stage: Stage, blocks: usize, rows: usize) -> bool
 
 // A refusal: the scan is unchanged.
 fn kept(s: Scan, why: Refusal) -> Fed
-    ensures { λ r. ⌜ feedResult r ≡ keptWith s why ⌝ }
+    ensures { λ r. ⌜ feedResult r ≡ refusedScan s why ⌝ }
 {
     Fed {
         next: s,
-        answer: Taken::Refused(why),
+        answer: Outcome::Refused(why),
     }
 }
 
@@ -435,25 +430,25 @@ pub fn is_next(block: &[u8], n: usize) -> bool
 
 // Puts row `n` into the 512 bytes of its block, for a caller that has only that block. Refused: 16 for a wrong length, or an n that no archive has
 // (15 times 2^32 and more); 12 with the position n / 15; the check's number; then the block is unchanged.
-pub fn put_row(block: &mut [u8], n: usize, bytes: &[u8], time: u64, loose: bool) -> Outcome
+pub fn put_row(block: &mut [u8], n: usize, bytes: &[u8], time: u64, loose: bool) -> ArchiveOutcome
     ensures { λ r. ⌜ appendResult r (now (block .exit))
         ≡ calls.putRowOf (now (block .entry)) n (rowOf (now (bytes .entry)) time loose) ⌝ }
 {
     if block.len() != BLOCK_LENGTH {
-        return Outcome::Refused(Refusal::Size);
+        return ArchiveOutcome::Refused(Refusal::Size);
     }
     if MAX_ROWS <= n {
-        return Outcome::Refused(Refusal::Size);
+        return ArchiveOutcome::Refused(Refusal::Size);
     }
     if !is_next(block, n) {
-        return Outcome::Damaged(n / CELLS_PER_BLOCK);
+        return ArchiveOutcome::Damaged(n / CELLS_PER_BLOCK);
     }
     let checked = radio_erp1::check(bytes);
     if let Checked::Refused(why) = checked {
-        return Outcome::Refused(why);
+        return ArchiveOutcome::Refused(why);
     }
     write_row(block, n, bytes, time, loose);
-    Outcome::Done
+    ArchiveOutcome::Done
 }
 
 // Writes the header, the row in its cell, and the CRC; the other cells are unchanged.
@@ -479,12 +474,18 @@ fn write_row(block: &mut [u8], n: usize, bytes: &[u8], time: u64, loose: bool)
 
 // Appends a row to an archive of `n` rows, the number that `open` returned: only one block is read and written. Refused: 16, 12 with the position n /
 // 15, the check's number, 6; then the buffer is unchanged.
-pub fn append_at(buffer: &mut [u8], n: usize, bytes: &[u8], time: u64, loose: bool) -> Outcome
+pub fn append_at(
+    buffer: &mut [u8],
+    n: usize,
+    bytes: &[u8],
+    time: u64,
+    loose: bool,
+) -> ArchiveOutcome
     ensures { λ r. ⌜ appendResult r (now (buffer .exit))
         ≡ calls.appendAtOf (now (buffer .entry)) n (rowOf (now (bytes .entry)) time loose) ⌝ }
 {
     if !is_whole(buffer.len()) {
-        return Outcome::Refused(Refusal::Size);
+        return ArchiveOutcome::Refused(Refusal::Size);
     }
     let k = n / CELLS_PER_BLOCK;
     if buffer.len() / BLOCK_LENGTH <= k {
@@ -500,13 +501,13 @@ pub fn append_at(buffer: &mut [u8], n: usize, bytes: &[u8], time: u64, loose: bo
 }
 
 // The refusal of a row for which there is no block.
-fn no_block(bytes: &[u8]) -> Outcome
+fn no_block(bytes: &[u8]) -> ArchiveOutcome
     ensures { λ r. ⌜ NoBlock (now (bytes .entry)) r ⌝ }
 {
     let checked = radio_erp1::check(bytes);
     match checked {
-        Checked::Valid => Outcome::Refused(Refusal::ShortOutput),
-        Checked::Refused(why) => Outcome::Refused(why),
+        Checked::Valid => ArchiveOutcome::Refused(Refusal::ShortOutput),
+        Checked::Refused(why) => ArchiveOutcome::Refused(why),
     }
 }
 
@@ -569,14 +570,14 @@ fn no_row(why: Refusal) -> RowAt
 }
 
 // Appends a row. Refused: 16, 12 with the position, the check's number, 6; then the buffer is unchanged.
-pub fn append(buffer: &mut [u8], bytes: &[u8], time: u64, loose: bool) -> Outcome
+pub fn append(buffer: &mut [u8], bytes: &[u8], time: u64, loose: bool) -> ArchiveOutcome
     ensures { λ r. ⌜ appendResult r (now (buffer .exit))
         ≡ calls.appendOf (now (buffer .entry)) (rowOf (now (bytes .entry)) time loose) ⌝ }
 {
     let rows = open(buffer);
     match rows {
         Opened::Rows(n) => append_at(buffer, n, bytes, time, loose),
-        Opened::Damaged(k) => Outcome::Damaged(k),
-        Opened::Refused(why) => Outcome::Refused(why),
+        Opened::Damaged(k) => ArchiveOutcome::Damaged(k),
+        Opened::Refused(why) => ArchiveOutcome::Refused(why),
     }
 }

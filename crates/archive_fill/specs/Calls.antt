@@ -2,11 +2,11 @@
 use Prim.Native.Nat.{ℕ}
 use mathlib.Core.List.{List}
 use Rattle.archive_model.specs.Append.{Verdict, Appended}
-use Rattle.archive_file.specs.Archive.{takenNumber}
+use Rattle.base_refusal.specs.Number.{outcomeNumber}
 use Rattle.archive_fill.specs.declared.Filled.{Filled}
 
 abbrev pub verdictOf : Filled → Verdict
-verdictOf r = record { number = takenNumber (r .answer); position = r .position }
+verdictOf r = record { number = outcomeNumber (r .answer); position = r .position }
 
 abbrev pub putRowsResult : Filled → List ℕ → Appended
-putRowsResult r after = record { number = takenNumber (r .answer); position = r .position; buffer = after }
+putRowsResult r after = record { number = outcomeNumber (r .answer); position = r .position; buffer = after }

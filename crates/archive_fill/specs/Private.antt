@@ -16,7 +16,7 @@ abbrev pub isGiven : ℕ → ℕ → ℕ → ℕ → Bool
 isGiven block n times records = eqb block blockLength && (ltb n maxRows && eqb records (rowLength * times))
 
 -- rows that can be put: at least one, all valid, and the block has room for them
-pub record Ready (block : List ℕ) (n : ℕ) (times records : List ℕ) : Type 0 where
+pub record RowsReady (block : List ℕ) (n : ℕ) (times records : List ℕ) : Type 0 where
   pub long : length block ≡ blockLength
   pub sized : length records ≡ rowLength * length times
   pub some : 0 < length times

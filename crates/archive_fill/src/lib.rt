@@ -1,6 +1,6 @@
 // Puts several rows into their block at once: first each cell, then header and CRC once for all of them.
 use archive_file::MAX_ROWS;
-use archive_file::Taken;
+use base_refusal::Outcome;
 use base_refusal::Refusal;
 use block_layout::BLOCK_LENGTH;
 use block_layout::CELL_CAPACITY;
@@ -20,14 +20,14 @@ ghost use Rattle.block_layout.specs.Cell.{cellLength};
 ghost use Rattle.archive_model.specs.Row.{rowCell, isRow};
 ghost use Rattle.archive_fill.specs.Fill.{rowLength, rowGiven, rowsGiven, checkRows, putRows, putRowsGiven};
 ghost use Rattle.archive_fill.specs.Calls.{putRowsResult, verdictOf};
-ghost use Rattle.archive_fill.specs.Private.{isGiven, Ready};
+ghost use Rattle.archive_fill.specs.Private.{isGiven, RowsReady};
 
 // A row without its time: a byte that is not 0 for LOOSE, its length, and 21 bytes.
 pub const ROW_LENGTH: usize = 2 + CELL_CAPACITY;
 
 // Whether the rows were put; with a refusal, its position.
 pub struct Filled {
-    pub answer: Taken,
+    pub answer: Outcome,
     pub position: usize,
 }
 
@@ -108,7 +108,7 @@ fn is_given(block: usize, n: usize, times: usize, rows: usize) -> bool
 
 // Writes the cells from row `n` on, the header with the count of all rows, and the CRC; the other cells are unchanged.
 fn write_rows(block: &mut [u8], n: usize, times: &[u64], rows: &[u8])
-    requires { ⌜ Ready (now block) n (now times) (now rows) ⌝ }
+    requires { ⌜ RowsReady (now block) n (now times) (now rows) ⌝ }
     ensures { λ _. ⌜ now (block .exit)
         ≡ putRows n (rowsGiven (now (times .entry)) (now (rows .entry))) (now (block .entry)) ⌝ }
 {
@@ -139,7 +139,7 @@ pub fn put_rows(block: &mut [u8], n: usize, times: &[u64], rows: &[u8]) -> Fille
     }
     let checked = check_rows(times, rows);
     let answer = checked.answer;
-    if let Taken::Refused(_) = answer {
+    if let Outcome::Refused(_) = answer {
         return checked;
     }
     if CELLS_PER_BLOCK - n % CELLS_PER_BLOCK < count {
@@ -157,7 +157,7 @@ fn refused(why: Refusal, position: usize) -> Filled
     ensures { λ r. ⌜ verdictOf r ≡ record { number = numberOf why; position = position } ⌝ }
 {
     Filled {
-        answer: Taken::Refused(why),
+        answer: Outcome::Refused(why),
         position,
     }
 }
@@ -167,7 +167,7 @@ fn done() -> Filled
     ensures { λ r. ⌜ verdictOf r ≡ record { number = 0; position = 0 } ⌝ }
 {
     Filled {
-        answer: Taken::Done,
+        answer: Outcome::Done,
         position: 0,
     }
 }

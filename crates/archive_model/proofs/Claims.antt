@@ -16,7 +16,7 @@ use Rattle.block_layout.specs.Block.{blockLength}
 use Rattle.archive_model.specs.Row.{Row, isRow}
 use Rattle.archive_model.specs.Buffer.{archiveOf, bufferOf, isWhole, rowsIn}
 use Rattle.archive_model.specs.Append.{verdict, appendOf}
-use Rattle.archive_model.specs.Claims.{isFit, Sizes, Layout, ReadBack, Exact, afterAppends, accepted, Run, AtCursor, Rows, RowShort, Pieces}
+use Rattle.archive_model.specs.Claims.{isFit, Sizes, Layout, ReadBack, ExactArchive, afterAppends, rowsAccepted, WholeRun, AtCursor, RowsAnswered, RowShort, Pieces}
 use Rattle.archive_model.proofs.Blocks.{Fits, Shorts, noRow, all-from}
 use Rattle.archive_model.proofs.Buffers.{rows-in}
 use Rattle.archive_model.proofs.ByByte.{laid}
@@ -52,7 +52,7 @@ by-byte k rows few valid =
 pub read-back : ReadBack
 read-back m rows mb few ok = (written-verdict rows m (fits rows ok) few mb, rows-in rows m (fits rows ok) few)
 
-pub exact : Exact
+pub exact : ExactArchive
 exact buffer v = (
   ap (λ (n : ℕ). bufferOf n (rowsIn buffer)) (blocks-of buffer v .0) ∙ is-exact buffer v,
   are-fit (rowsIn buffer) (rows-fit buffer v),
@@ -62,7 +62,7 @@ pub at-cursor : AtCursor
 at-cursor buffer r v t =
     (cursor buffer v r t, λ z. ap length (appended buffer v r t z .1) ∙ length-append (rowsIn buffer) (r ∷ []))
 
-pub row-read : Rows
+pub row-read : RowsAnswered
 row-read buffer i v =
     rw (is-exact buffer v) at
     (row-at (rowsIn buffer) (length buffer / blockLength)
@@ -79,25 +79,25 @@ in-pieces = (scan-append, scan-found, scan-rows)
 run-from : (buffer : List ℕ) (rows : List Row) → verdict buffer .number ≡ 0
     → all (λ r. ltb (r .time) (2 ^ 64)) rows ≡ true
     → (verdict (afterAppends buffer rows) .number ≡ 0)
-    × (rowsIn (afterAppends buffer rows) ≡ rowsIn buffer ++ accepted buffer rows)
+    × (rowsIn (afterAppends buffer rows) ≡ rowsIn buffer ++ rowsAccepted buffer rows)
 run-from buffer [] v ok = (v, sym (append-nil (rowsIn buffer)))
 run-from buffer (r ∷ rows) v ok =
     let b = both (ltb (r .time) (2 ^ 64)) _ ok in
     let next = appendOf buffer r .buffer in
     by-test {X = (verdict (afterAppends next rows) .number ≡ 0)
-    × (rowsIn (afterAppends next rows) ≡ rowsIn buffer ++ accepted buffer (r ∷ rows))}
+    × (rowsIn (afterAppends next rows) ≡ rowsIn buffer ++ rowsAccepted buffer (r ∷ rows))}
     (eqb (appendOf buffer r .number) 0)
     (λ t.
     let a = appended buffer v r (ltb-true (r .time) (2 ^ 64) (b .0)) (eqb-true (appendOf buffer r .number) 0 t) in
     let p = run-from next rows (a .0) (b .1) in (
       p .0,
-      p .1 ∙ ap (λ (l : List Row). l ++ accepted next rows) (a .1)
-          ∙ append-assoc (rowsIn buffer) (r ∷ []) (accepted next rows) ∙ (rw t),
+      p .1 ∙ ap (λ (l : List Row). l ++ rowsAccepted next rows) (a .1)
+          ∙ append-assoc (rowsIn buffer) (r ∷ []) (rowsAccepted next rows) ∙ (rw t),
     ))
     (λ f.
     let k = append-kept buffer r (eqb-false (appendOf buffer r .number) 0 f) in
     let p = run-from next rows (rw k v) (b .1) in
-    (p .0, p .1 ∙ ap (λ (l : List ℕ). rowsIn l ++ accepted next rows) k ∙ (rw f)))
+    (p .0, p .1 ∙ ap (λ (l : List ℕ). rowsIn l ++ rowsAccepted next rows) k ∙ (rw f)))
 
 -- an all-zero buffer is an archive of no rows
 zeros-are : (n : ℕ) → bufferOf n [] ≡ replicate n 0
@@ -106,9 +106,9 @@ zeros-are n =
     let e : n - 0 ≡ n = omega arith in
     rw e
 
-pub run : Run
+pub run : WholeRun
 run m rows mb ok =
     let b = read-back m [] mb (omega arith) refl in
     let z = zeros-are (blockLength * m) in
     let p = run-from (replicate (512 * m) 0) rows (rw z at (b .0)) ok in
-    (p .0, p .1 ∙ ap (λ (l : List Row). l ++ accepted (replicate (512 * m) 0) rows) (rw z at (b .1)))
+    (p .0, p .1 ∙ ap (λ (l : List Row). l ++ rowsAccepted (replicate (512 * m) 0) rows) (rw z at (b .1)))

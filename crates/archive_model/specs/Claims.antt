@@ -63,9 +63,9 @@ ReadBack =
     (m : ℕ) (rows : List Row) → m ≤ 2 ^ 32 → length rows ≤ 15 * m → all isFit rows ≡ true
     → (verdict (bufferOf (512 * m) rows) .number ≡ 0) × (rowsIn (bufferOf (512 * m) rows) ≡ rows)
 
--- Exact: an archive is byte for byte what is written for its rows.
-abbrev pub Exact : Type 0
-Exact =
+-- Exact archive: an archive is byte for byte what is written for its rows.
+abbrev pub ExactArchive : Type 0
+ExactArchive =
     (buffer : List ℕ) → verdict buffer .number ≡ 0
     → (bufferOf (length buffer) (rowsIn buffer) ≡ buffer) × (all isFit (rowsIn buffer) ≡ true)
 
@@ -76,18 +76,18 @@ abbrev pub afterAppends : List ℕ → List Row → List ℕ
 afterAppends buffer [] = buffer
 afterAppends buffer (r ∷ rows) = afterAppends (appendOf buffer r .buffer) rows
 
-abbrev pub accepted : List ℕ → List Row → List Row
-accepted buffer [] = []
-accepted buffer (r ∷ rows) =
-    cond (eqb (appendOf buffer r .number) 0) (r ∷ accepted (appendOf buffer r .buffer) rows)
-    (accepted (appendOf buffer r .buffer) rows)
+abbrev pub rowsAccepted : List ℕ → List Row → List Row
+rowsAccepted buffer [] = []
+rowsAccepted buffer (r ∷ rows) =
+    cond (eqb (appendOf buffer r .number) 0) (r ∷ rowsAccepted (appendOf buffer r .buffer) rows)
+    (rowsAccepted (appendOf buffer r .buffer) rows)
 
 -- Run: "Reading back gives exactly the rows appended, in order."
-abbrev pub Run : Type 0
-Run =
+abbrev pub WholeRun : Type 0
+WholeRun =
     (m : ℕ) (rows : List Row) → m ≤ 2 ^ 32 → all (λ r. ltb (r .time) (2 ^ 64)) rows ≡ true
     → (verdict (afterAppends (replicate (512 * m) 0) rows) .number ≡ 0)
-    × (rowsIn (afterAppends (replicate (512 * m) 0) rows) ≡ accepted (replicate (512 * m) 0) rows)
+    × (rowsIn (afterAppends (replicate (512 * m) 0) rows) ≡ rowsAccepted (replicate (512 * m) 0) rows)
 
 -- At the cursor: an append as row n, where n is the number of rows, does the same as an append that reads all blocks.
 -- If it is answered 0, there is one row more.
@@ -97,9 +97,9 @@ AtCursor =
     → (appendAtOf buffer (length (rowsIn buffer)) r ≡ appendOf buffer r)
     × (appendOf buffer r .number ≡ 0 → length (rowsIn (appendOf buffer r .buffer)) ≡ length (rowsIn buffer) + 1)
 
--- Rows: row i of an archive is returned, or the answer is 10 if there is no row i.
-abbrev pub Rows : Type 0
-Rows =
+-- Rows answered: row i of an archive is returned, or the answer is 10 if there is no row i.
+abbrev pub RowsAnswered : Type 0
+RowsAnswered =
     (buffer : List ℕ) (i : ℕ) → verdict buffer .number ≡ 0
     → rowAtOf buffer i
     ≡ cond (ltb i (length (rowsIn buffer))) (record { number = 0; row = getD (rowsIn buffer) i noRow })

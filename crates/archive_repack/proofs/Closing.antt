@@ -23,13 +23,13 @@ use Rattle.base_buffers.proofs.Segments.{Begun, begin, named, skip}
 use Rattle.archive_model.specs.Row.{Row}
 use Rattle.archive_model.specs.Buffer.{archiveOf, bufferOf, isWhole}
 use Rattle.archive_repack_model.specs.Repack.{isListed, others, soundRows, dropped, fronted, Salvaged, salvageOf}
-use Rattle.archive_repack_model.specs.Packer.{Packing, startPacking, fullLength, cellsBlock, pushedBlocks, pushed, lastBlock, keptCells, pendingLength, packing}
+use Rattle.archive_repack_model.specs.Packer.{Packing, startPacking, fullLength, cellsBlock, pushedBlocks, pushed, waitingBlock, keptCells, pendingLength, packing}
 use Rattle.archive_repack_model.proofs.Packing.{cells-block-length, cells-length}
 use Rattle.archive_repack_model.proofs.Rows.{sound-rows-fit, sound-rows-few}
 use Rattle.archive_repack_model.proofs.Salvage.{salvaged-length}
 use Rattle.archive_repack_model.proofs.Removal.{fits-keep}
 use Rattle.archive_repack_model.proofs.Pieces.{packed-archive}
-use Rattle.archive_repack.specs.Private.{closed}
+use Rattle.archive_repack.specs.Private.{packedBuffer}
 
 -- what stands before some index
 pub before : (xs : List ℕ) (at : ℕ) → at ≤ length xs → Begun xs (take at xs) at xs
@@ -41,15 +41,15 @@ module _ (next used : ℕ) (pending : List ℕ) (l : length pending ≡ pendingL
   waiting-long : length (take (cellLength * used) pending) ≡ cellLength * used
   waiting-long = length-take (cellLength * used) pending ∙ omega arith
 
-  pub last-none : used ≡ 0 → lastBlock (packing next used pending) ≡ []
-  unfolding lastBlock
+  pub last-none : used ≡ 0 → waitingBlock (packing next used pending) ≡ []
+  unfolding waitingBlock
   last-none z =
       let e : length (take (cellLength * used) pending) ≡ 0 = waiting-long ∙ omega arith in
       rw (eq-eqb _ 0 e)
 
   pub last-some : (used ≡ 0 → ⊥)
-      → lastBlock (packing next used pending) ≡ cellsBlock next (take (cellLength * used) pending)
-  unfolding lastBlock
+      → waitingBlock (packing next used pending) ≡ cellsBlock next (take (cellLength * used) pending)
+  unfolding waitingBlock
   last-some z =
       let e : length (take (cellLength * used) pending) ≡ 0 → ⊥ = λ q. z (omega (arith, waiting-long, q)) in
       rw (ne-eqb _ 0 e)
@@ -62,7 +62,7 @@ module _ (next used : ℕ) (pending : List ℕ) (l : length pending ≡ pendingL
     at = blockLength * next
 
     pub closed-none : used ≡ 0 → Begun out (take at out ++ replicate (end - at) 0) end xs
-        → xs ≡ closed (packing next used pending) end out
+        → xs ≡ packedBuffer (packing next used pending) end out
     closed-none z b =
         let n : end - at - 0 ≡ end - at = omega arith in
         b .is ∙ ap (λ (m : ℕ). take at out ++ replicate m 0 ++ drop end out) (sym n)
@@ -71,7 +71,7 @@ module _ (next used : ℕ) (pending : List ℕ) (l : length pending ≡ pendingL
     pub closed-last : (used ≡ 0 → ⊥) → Begun out
         (take at out ++ cellsBlock next (take (cellLength * used) pending) ++ replicate (end - (at + blockLength)) 0)
         end xs
-        → xs ≡ closed (packing next used pending) end out
+        → xs ≡ packedBuffer (packing next used pending) end out
     closed-last z b =
         let block = cellsBlock next (take (cellLength * used) pending) in
         let n : end - (at + blockLength) ≡ end - at - length block = omega (arith, last-long) in
@@ -103,11 +103,12 @@ module _ (identities piece : List ℕ) (next used : ℕ) (pending : List ℕ)
   pub closed-archive : (end : ℕ) (out out1 : List ℕ) → length (pushedBlocks startPacking cells) ≡ blockLength * next
       → length (pushedBlocks startPacking cells) ≤ end
       → out1 ≡ fronted (pushedBlocks startPacking cells) out
-      → closed (packing next used pending) end out1 ≡ bufferOf end (others identities (soundRows piece)) ++ drop end out
+      → packedBuffer (packing next used pending) end out1
+      ≡ bufferOf end (others identities (soundRows piece)) ++ drop end out
   unfolding bufferOf
   closed-archive end out out1 long fits put =
       let front = pushedBlocks startPacking cells in
-      let last = lastBlock (packing next used pending) in
+      let last = waitingBlock (packing next used pending) in
       let e : out1 ≡ front ++ drop (length front) out = put in
       let first : take (blockLength * next) out1 ≡ front = ap (take (blockLength * next)) e
       ∙ take-at front (drop (length front) out) (blockLength * next) long in
@@ -117,7 +118,7 @@ module _ (identities piece : List ℕ) (next used : ℕ) (pending : List ℕ)
       ∙ drop-append-add front (drop (length front) out) (end - length front)
       ∙ drop-drop (end - length front) (length front) out ∙ ap (λ (m : ℕ). drop m out) d in
       let archive : front ++ last ≡ archiveOf (others identities (soundRows piece)) =
-      ap (λ (p : Packing). front ++ lastBlock p) is
+      ap (λ (p : Packing). front ++ waitingBlock p) is
       ∙ packed-archive identities piece in
       let n : end - blockLength * next - length last ≡ end - length (front ++ last) =
       omega (arith, length-append front last, long) in
@@ -160,7 +161,7 @@ module _ (buffer : List ℕ) (next used : ℕ) (pending : List ℕ)
       → length (dropped buffer) ≤ length positions
       → blockLength * 0 + length (pushedBlocks startPacking (keptCells [] buffer)) ≡ blockLength * next
       → out1 ≡ fronted (pushedBlocks startPacking (keptCells [] buffer)) output
-      → out2 ≡ closed (packing next used pending) (length buffer) out1
+      → out2 ≡ packedBuffer (packing next used pending) (length buffer) out1
       → positions2 ≡ fronted (dropped buffer) positions → (gone : ℕ)
       → gone ≡ length (dropped buffer)
       → record { number = 0; count = gone; rows = cellsPerBlock * next + used; output = out2; positions = positions2 }

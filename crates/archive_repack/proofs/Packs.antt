@@ -17,7 +17,7 @@ use Rattle.block_layout.specs.Cell.{cellLength}
 use Rattle.block_layout.specs.Block.{cellsPerBlock, blockLength}
 use Rattle.archive_model.specs.Buffer.{maxBlocks, maxRows}
 use Rattle.archive_repack_model.specs.Repack.{dropped, fronted, maxIdentities}
-use Rattle.archive_repack_model.specs.Packer.{pendingLength, packing, cellsBlock, pushedBlocks, pushed, lastBlock, keptCells, hasBlocks, isPacking, Packed, keptAs, packedAs, packOf, Finished, finishOf}
+use Rattle.archive_repack_model.specs.Packer.{pendingLength, packing, cellsBlock, pushedBlocks, pushed, waitingBlock, keptCells, hasBlocks, isPacking, Packed, keptAs, packedAs, packOf, Finished, finishOf}
 use Rattle.archive_repack.proofs.Closing.{last-none, last-some, last-long}
 
 module _ (next used : ℕ) (pending : List ℕ) where
@@ -146,11 +146,11 @@ module _ (next used : ℕ) (pending : List ℕ) where
       unfolding finishOf
       finish-none z =
           let none = last-none next used pending (facts .0) (facts .1) z in
-          let low : length (lastBlock (packing next used pending)) ≤ length output = omega (arith, ap length none) in
-          rw (p, le-ltb (length output) (length (lastBlock (packing next used pending))) low, none)
+          let low : length (waitingBlock (packing next used pending)) ≤ length output = omega (arith, ap length none) in
+          rw (p, le-ltb (length output) (length (waitingBlock (packing next used pending))) low, none)
 
       module _ (some : used ≡ 0 → ⊥) where
-        long : length (lastBlock (packing next used pending)) ≡ blockLength
+        long : length (waitingBlock (packing next used pending)) ≡ blockLength
         long =
             ap length (last-some next used pending (facts .0) (facts .1) some)
             ∙ last-long next used pending (facts .0) (facts .1)
@@ -159,18 +159,18 @@ module _ (next used : ℕ) (pending : List ℕ) where
             → record { number = numberOf ShortOutput; length = 0; output = output } ≡ finishOf next used pending output
         unfolding finishOf
         finish-short h =
-            let low : length output < length (lastBlock (packing next used pending)) = omega (arith, long) in
-            rw (p, lt-ltb (length output) (length (lastBlock (packing next used pending))) low)
+            let low : length output < length (waitingBlock (packing next used pending)) = omega (arith, long) in
+            rw (p, lt-ltb (length output) (length (waitingBlock (packing next used pending))) low)
 
         pub finish-last : blockLength ≤ length output → (out2 : List ℕ)
             → out2 ≡ cellsBlock next (take (cellLength * used) pending) ++ drop blockLength output
             → record { number = 0; length = blockLength; output = out2 } ≡ finishOf next used pending output
         unfolding finishOf
         finish-last h out2 e =
-            let low : length (lastBlock (packing next used pending)) ≤ length output = omega (arith, long) in
-            let is : out2 ≡ fronted (lastBlock (packing next used pending)) output =
+            let low : length (waitingBlock (packing next used pending)) ≤ length output = omega (arith, long) in
+            let is : out2 ≡ fronted (waitingBlock (packing next used pending)) output =
             e
             ∙ ap₂ (λ (b : List ℕ) (n : ℕ). b ++ drop n output)
             (sym (last-some next used pending (facts .0) (facts .1) some)) (sym long) in
-            rw (p, le-ltb (length output) (length (lastBlock (packing next used pending))) low)
+            rw (p, le-ltb (length output) (length (waitingBlock (packing next used pending))) low)
             (λ j. record { number = 0; length = sym long j; output = is j })

@@ -24,7 +24,7 @@ use Rattle.archive_repack_model.specs.Repack.{maxIdentities, isListed, others, 
 use Rattle.archive_repack_model.specs.Packer.{startPacking, pushedBlocks, pushed, keptCells, pendingLength, packing}
 use Rattle.archive_repack_model.proofs.Rows.{intact-rows}
 use Rattle.archive_repack_model.proofs.Removal.{removed-is, rest-fits}
-use Rattle.archive_repack.specs.Private.{closed}
+use Rattle.archive_repack.specs.Private.{packedBuffer}
 use Rattle.archive_repack.proofs.Closing.{counted, kept-long, closed-archive}
 use Rattle.archive_repack.proofs.Within.{in-use-few, in-use-length, in-use-archive}
 
@@ -83,7 +83,7 @@ module _ (buffer identities : List ℕ) (v : verdict buffer .number ≡ 0)
     pub remove-done : (out1 out2 : List ℕ) → length identities ≤ maxIdentities
         → blockLength * 0 + length (pushedBlocks startPacking (keptCells identities buffer)) ≡ blockLength * next
         → out1 ≡ fronted (pushedBlocks startPacking (keptCells identities buffer)) buffer
-        → out2 ≡ closed (packing next waits pending) end out1
+        → out2 ≡ packedBuffer (packing next waits pending) end out1
         → (after : ℕ) → after ≡ blocksFor (cellsPerBlock * next + waits)
         → record { number = 0; position = 0; freed = blocks - after; buffer = out2 } ≡ removeOf buffer identities
     remove-done out1 out2 listed long put out-is after e =

@@ -33,7 +33,7 @@ use Rattle.archive_repack_model.specs.Repack.{isListed, others, isDropped, drop
 use Rattle.archive_repack_model.specs.Packer.{Packing, fullLength, fullBlocks, pushedBlocks, pushed, cellsOf, keptCells, pendingLength, packing}
 use Rattle.archive_repack_model.proofs.Packing.{few-blocks, one-block, cells-block-length, blocks-append, push-append, push-none}
 use Rattle.archive_repack_model.proofs.Pieces.{keptIn, kept-is, kept-next, kept-none}
-use Rattle.archive_repack.specs.Private.{areRows, keptCell, keptFrom, Waits, Flushed, Listed}
+use Rattle.archive_repack.specs.Private.{areRows, keptCell, keptFrom, Waits, Flushed, DropListed}
 
 -- ---- the cells of one block
 
@@ -417,7 +417,7 @@ module _ (piece old : List ℕ) (n : ℕ) where
         )
 
     pub list-turn : k < n → length (dropped piece) ≤ length old → (after : List ℕ) (r : ℕ)
-        → Listed (isDropped (blockAt k piece)) gone k positions after r → Listing piece old n (k + 1) r after
+        → DropListed (isDropped (blockAt k piece)) gone k positions after r → Listing piece old n (k + 1) r after
     list-turn h few after r l =
         by-test {X = Listing piece old n (k + 1) r after} (isDropped (blockAt k piece))
         (λ t.

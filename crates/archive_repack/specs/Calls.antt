@@ -2,9 +2,8 @@
 use Prim.Native.Nat.{ℕ}
 use mathlib.Core.List.{List}
 use lib.ListN.{length}
-use Rattle.base_refusal.specs.Number.{numberOf}
+use Rattle.base_refusal.specs.Number.{numberOf, outcomeNumber}
 use Rattle.base_refusal.specs.declared.Refusal.the-variants.{Mismatch}
-use Rattle.archive_file.specs.Archive.{takenNumber}
 use Rattle.archive_repack_model.specs.Repack as model
 use Rattle.archive_repack_model.specs.Packer.{Packed, Finished}
 use Rattle.archive_repack.specs.declared.Salvaged.{Salvaged}
@@ -15,7 +14,7 @@ use Rattle.archive_repack.specs.declared.Ended.{Ended}
 
 abbrev pub salvageResult : Salvaged → List ℕ → List ℕ → model.Salvaged
 salvageResult r output positions = record {
-  number = takenNumber (r .answer);
+  number = outcomeNumber (r .answer);
   count = r .dropped;
   rows = r .rows;
   output = output;
@@ -30,7 +29,7 @@ removeResult (removed.Refused why) after = record { number = numberOf why; posit
 
 abbrev pub packResult : Repacked → List ℕ → List ℕ → List ℕ → Packed
 packResult r pending output positions = record {
-  number = takenNumber (r .answer);
+  number = outcomeNumber (r .answer);
   count = r .dropped;
   used = r .used;
   next = r .next;
@@ -40,4 +39,4 @@ packResult r pending output positions = record {
 }
 
 abbrev pub finishResult : Ended → List ℕ → Finished
-finishResult r output = record { number = takenNumber (r .answer); length = r .len; output = output }
+finishResult r output = record { number = outcomeNumber (r .answer); length = r .len; output = output }

@@ -12,7 +12,7 @@ use Rattle.block_layout.specs.Block.{cellsPerBlock, blockLength}
 use Rattle.archive_model.specs.Row.{rowIn, isRow}
 use Rattle.archive_file.specs.Private.{cellsFrom}
 use Rattle.archive_repack_model.specs.Repack as model
-use Rattle.archive_repack_model.specs.Packer.{Packing, packing, keptAs, fullLength, fullBlocks, pushedBlocks, pushed, lastBlock}
+use Rattle.archive_repack_model.specs.Packer.{Packing, packing, keptAs, fullLength, fullBlocks, pushedBlocks, pushed, waitingBlock}
 use Rattle.archive_repack.specs.declared.Salvaged.{Salvaged}
 use Rattle.archive_repack.specs.declared.Repacked.{Repacked}
 use Rattle.archive_repack.specs.declared.Walk.{Walk}
@@ -46,7 +46,7 @@ abbrev pub HasRoom : List ℕ → ℕ → List ℕ → Type 0
 HasRoom block gone positions = model.isDropped block ≡ true → gone < length positions
 
 -- if its block is dropped, position k is put into the list after `gone` others
-pub record Listed (isDropped : Bool) (gone k : ℕ) (before after : List ℕ) (r : ℕ) : Type 0 where
+pub record DropListed (isDropped : Bool) (gone k : ℕ) (before after : List ℕ) (r : ℕ) : Type 0 where
   pub list : after ≡ cond isDropped (set before gone k) before
   pub count : r ≡ cond isDropped (gone + 1) gone
 
@@ -59,9 +59,9 @@ pub record Walked (p : Packing) (cells : List ℕ) (r : Walk) (pending out out2 
   pub long : blockLength * p .next + length (pushedBlocks p cells) ≡ blockLength * r .next
 
 -- a buffer after the last block was put, with zeros after it up to `end`
-abbrev pub closed : Packing → ℕ → List ℕ → List ℕ
-closed p end out =
-    take (blockLength * p .next) out ++ padded (end - blockLength * p .next) (lastBlock p) ++ drop end out
+abbrev pub packedBuffer : Packing → ℕ → List ℕ → List ℕ
+packedBuffer p end out =
+    take (blockLength * p .next) out ++ padded (end - blockLength * p .next) (waitingBlock p) ++ drop end out
 
 -- a salvage that is refused leaves everything unchanged
 abbrev pub NotSalvaged : Refusal → Salvaged → Type 0

@@ -1,6 +1,6 @@
 // Packs archives again (document 02, A9 and A11): salvages a damaged one, and removes the rows of sensors that left. One packer does both.
 use archive_file::Opened;
-use archive_file::Taken;
+use base_refusal::Outcome;
 use base_refusal::Refusal;
 use block_layout::BLOCK_LENGTH;
 use block_layout::CELL_LENGTH;
@@ -24,7 +24,7 @@ ghost use Rattle.archive_repack_model.specs.Repack as model;
 ghost use Rattle.archive_repack_model.specs.Packer as packer;
 ghost use Rattle.archive_repack_model.specs.Packer.{pendingLength, packing};
 ghost use Rattle.archive_repack.specs.Calls.{salvageResult, removeResult, packResult, finishResult};
-ghost use Rattle.archive_repack.specs.Private.{areRows, keptCell, keptFrom, Waits, Flushed, HasRoom, Listed, Walked, closed, NotSalvaged, NotPacked};
+ghost use Rattle.archive_repack.specs.Private.{areRows, keptCell, keptFrom, Waits, Flushed, HasRoom, DropListed, Walked, packedBuffer, NotSalvaged, NotPacked};
 
 // The largest number of identities in one removal.
 pub const MAX_IDENTITIES: usize = 32;
@@ -42,7 +42,7 @@ const FIELD: usize = 9;
 
 // How many blocks were dropped, and how many rows remain.
 pub struct Salvaged {
-    pub answer: Taken,
+    pub answer: Outcome,
     pub dropped: usize,
     pub rows: usize,
 }
@@ -56,7 +56,7 @@ pub enum Removed {
 
 // The packer after a piece: how many cells wait, the number of the next block, and how many blocks of the piece were dropped.
 pub struct Repacked {
-    pub answer: Taken,
+    pub answer: Outcome,
     pub used: usize,
     pub next: usize,
     pub dropped: usize,
@@ -64,7 +64,7 @@ pub struct Repacked {
 
 // The length of the last block, 512 or 0.
 pub struct Ended {
-    pub answer: Taken,
+    pub answer: Outcome,
     pub len: usize,
 }
 
@@ -183,7 +183,7 @@ fn flush(pending: &mut [u8], total: usize, k: usize, full: &mut [u8]) -> usize
 // If a block is dropped, puts its position `k` after `gone` others. `rows` is the number of its rows if it is sound, else 0.
 fn list_block(positions: &mut [u64], gone: usize, k: usize, block: &[u8], rows: usize) -> usize
     requires { ⌜ (rows ≡ soundCount (now block)) × HasRoom (now block) gone (now positions) ⌝ }
-    ensures { λ r. ⌜ Listed (model.isDropped (now (block .entry))) gone k (now (positions .entry))
+    ensures { λ r. ⌜ DropListed (model.isDropped (now (block .entry))) gone k (now (positions .entry))
         (now (positions .exit))
         r ⌝ }
 {
@@ -244,7 +244,8 @@ fn pack_blocks(
 fn close(out: &mut [u8], pending: &[u8], used: usize, next: usize, end: usize)
     requires { ⌜ (length (now pending) ≡ pendingLength) × (used < cellsPerBlock)
         × (cellsPerBlock * next + used ≤ cellsPerBlock * (end / blockLength)) × (end ≤ length (now out)) ⌝ }
-    ensures { λ _. ⌜ now (out .exit) ≡ closed (packing next used (now (pending .entry))) end (now (out .entry)) ⌝ }
+    ensures { λ _.
+        ⌜ now (out .exit) ≡ packedBuffer (packing next used (now (pending .entry))) end (now (out .entry)) ⌝ }
 {
     let at = BLOCK_LENGTH * next;
     if used == 0 {
@@ -315,7 +316,7 @@ pub fn salvage(buffer: &[u8], out: &mut [u8], positions: &mut [u64]) -> Salvaged
     let end = pack_blocks(&mut pending, 0, 0, buffer, &none[0..0], out, positions);
     close(out, &pending, end.used, end.next, buffer.len());
     Salvaged {
-        answer: Taken::Done,
+        answer: Outcome::Done,
         dropped: end.dropped,
         rows: CELLS_PER_BLOCK * end.next + end.used,
     }
@@ -326,7 +327,7 @@ fn not_salvaged(why: Refusal) -> Salvaged
     ensures { λ r. ⌜ NotSalvaged why r ⌝ }
 {
     Salvaged {
-        answer: Taken::Refused(why),
+        answer: Outcome::Refused(why),
         dropped: 0,
         rows: 0,
     }
@@ -459,7 +460,7 @@ pub fn pack(
     let behind = CELL_LENGTH * end.used;
     block_layout::clear(&mut pending[behind..PENDING_LENGTH]);
     Repacked {
-        answer: Taken::Done,
+        answer: Outcome::Done,
         used: end.used,
         next: end.next,
         dropped: end.dropped,
@@ -471,7 +472,7 @@ fn not_packed(used: usize, next: usize, why: Refusal) -> Repacked
     ensures { λ r. ⌜ NotPacked used next why r ⌝ }
 {
     Repacked {
-        answer: Taken::Refused(why),
+        answer: Outcome::Refused(why),
         used,
         next,
         dropped: 0,
@@ -486,19 +487,19 @@ pub fn finish(pending: &[u8], used: usize, next: usize, out: &mut [u8]) -> Ended
 {
     if !is_packing(pending, used, next) {
         return Ended {
-            answer: Taken::Refused(Refusal::NotAccepted),
+            answer: Outcome::Refused(Refusal::NotAccepted),
             len: 0,
         };
     }
     if used == 0 {
         return Ended {
-            answer: Taken::Done,
+            answer: Outcome::Done,
             len: 0,
         };
     }
     if out.len() < BLOCK_LENGTH {
         return Ended {
-            answer: Taken::Refused(Refusal::ShortOutput),
+            answer: Outcome::Refused(Refusal::ShortOutput),
             len: 0,
         };
     }
@@ -508,7 +509,7 @@ pub fn finish(pending: &[u8], used: usize, next: usize, out: &mut [u8]) -> Ended
         &pending[0..CELL_LENGTH * used],
     );
     Ended {
-        answer: Taken::Done,
+        answer: Outcome::Done,
         len: BLOCK_LENGTH,
     }
 }

@@ -24,7 +24,7 @@ use Rattle.archive_model.specs.Row.{Row, rowLast, rowCell, rowsHeader, rowsBloc
 use Rattle.archive_model.specs.Buffer.{blocksFor, rowsAt, archiveOf}
 use Rattle.archive_model.proofs.Blocks.{Fit, Fits, noRow, short, header-length}
 use Rattle.archive_model.proofs.Buffers.{group-fits}
-use Rattle.archive_repack_model.specs.Packer.{Packing, startPacking, fullLength, cellsBlock, fullBlocks, pushedBlocks, pushed, lastBlock, cellsOf}
+use Rattle.archive_repack_model.specs.Packer.{Packing, startPacking, fullLength, cellsBlock, fullBlocks, pushedBlocks, pushed, waitingBlock, cellsOf}
 
 -- ---- two lists of cells
 
@@ -224,8 +224,8 @@ module _ (rows : List Row) (fit : Fits rows) where
   one-more k = append-nil (write k)
 
   -- all blocks of an archive
-  pub archive-cells : archiveOf rows ≡ pushedBlocks startPacking cells ++ lastBlock (pushed startPacking cells)
-  unfolding archiveOf lastBlock pushed
+  pub archive-cells : archiveOf rows ≡ pushedBlocks startPacking cells ++ waitingBlock (pushed startPacking cells)
+  unfolding archiveOf waitingBlock pushed
   archive-cells = elim (decLt 0 (length rows % cellsPerBlock)) [
     | yes h ↦
         (let b : blocksFor (length rows) ≡ count + 1 = omega arith in

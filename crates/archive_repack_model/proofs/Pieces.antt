@@ -19,8 +19,8 @@ use Rattle.archive_model.specs.Row.{Row, rowCell, rowsOf, isSound}
 use Rattle.archive_model.specs.Buffer.{blocksIn, archiveOf}
 use Rattle.archive_model.proofs.Pieces.{pieces-blocks}
 use Rattle.archive_repack_model.specs.Repack.{soundRows, isListed, others}
-use Rattle.archive_repack_model.specs.Packer.{startPacking, pushedBlocks, pushed, lastBlock, cellsOf, keptCells, pendingLength}
-use Rattle.archive_repack_model.specs.Claims.{Held}
+use Rattle.archive_repack_model.specs.Packer.{startPacking, pushedBlocks, pushed, waitingBlock, cellsOf, keptCells, pendingLength}
+use Rattle.archive_repack_model.specs.Claims.{PackingHeld}
 use Rattle.archive_repack_model.proofs.Rows.{rowsKept, sound-rows-fit}
 use Rattle.archive_repack_model.proofs.Packing.{archive-cells}
 use Rattle.archive_repack_model.proofs.Removal.{fits-keep}
@@ -64,14 +64,14 @@ module _ (identities : List ℕ) where
 -- the archive of what stays
 pub packed-archive : (identities : List ℕ) (piece : List ℕ)
     → pushedBlocks startPacking (keptCells identities piece)
-    ++ lastBlock (pushed startPacking (keptCells identities piece))
+    ++ waitingBlock (pushed startPacking (keptCells identities piece))
     ≡ archiveOf (others identities (soundRows piece))
 unfolding keptCells
 packed-archive identities piece =
     sym (archive-cells (others identities (soundRows piece))
     (fits-keep (λ r. not (isListed identities r)) (soundRows piece) (sound-rows-fit piece)))
 
-pub held : Held
+pub held : PackingHeld
 held count p output positions h =
     let ws = p .waiting in
     let zeros = replicate {A = ℕ} (pendingLength - length ws) 0 in

@@ -24,7 +24,7 @@ use Rattle.archive_model.proofs.Blocks.{Fit, Fits, noRow, rows-block-length, co
 use Rattle.archive_model.proofs.Buffers.{blank, blank-blank, group-fits, group-few, group-length, buffer-length, rows-in, blocks-back, free-block, not-blank}
 use Rattle.archive_model.proofs.Cursor.{blocks-of, is-exact, rows-fit, rows-few, written-verdict}
 use Rattle.archive_repack_model.specs.Repack.{maxIdentities, isListed, others, Removed, removeOf}
-use Rattle.archive_repack_model.specs.Claims.{Remains, RemovedAgain, Freed, ThenAppend, BothLists}
+use Rattle.archive_repack_model.specs.Claims.{OtherRowsRemain, RemovedAgain, Freed, ThenAppend, BothLists}
 
 -- ---- the rows that stay
 
@@ -145,7 +145,7 @@ module _ (buffer identities : List ℕ) (v : verdict buffer .number ≡ 0) where
   pub after-rows : rowsIn after ≡ rest
   after-rows = rw after-is (rows-in rest m rest-fits rest-few)
 
-pub remains : Remains
+pub remains : OtherRowsRemain
 remains buffer identities z =
     let g = gone buffer identities z in
     let v = g .archive in

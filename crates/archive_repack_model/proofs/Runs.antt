@@ -31,7 +31,7 @@ use Rattle.archive_model.specs.Row.{Row}
 use Rattle.archive_model.specs.Buffer.{maxRows, blocksIn}
 use Rattle.archive_model.specs.Append.{blockAt}
 use Rattle.archive_repack_model.specs.Repack.{soundRows, isDropped, dropped, fronted, maxIdentities, isListed, others}
-use Rattle.archive_repack_model.specs.Packer.{Packing, startPacking, fullLength, cellsBlock, fullBlocks, pushedBlocks, pushed, lastBlock, keptCells, pendingLength, packing, hasBlocks, isPacking, Packed, keptAs, packedAs, packOf, finishOf, Call, Run, startRun, ran, packAll, endOf}
+use Rattle.archive_repack_model.specs.Packer.{Packing, startPacking, fullLength, cellsBlock, fullBlocks, pushedBlocks, pushed, waitingBlock, keptCells, pendingLength, packing, hasBlocks, isPacking, Packed, keptAs, packedAs, packOf, finishOf, PackCall, PackRun, startPackRun, ran, packAll, finishRun}
 use Rattle.archive_repack_model.specs.Claims.{PackedWhole, PiecesPacked}
 use Rattle.archive_repack_model.proofs.Rows.{map-id, sound-rows-fit, sound-rows-few}
 use Rattle.archive_repack_model.proofs.Packing.{push-waits, blocks-append, push-append, cells-block-length, cells-length, push-none}
@@ -168,15 +168,15 @@ module _ (next used : ℕ) (pending : List ℕ) (p : isPacking next used pending
               is = rw (p, a, b, c);
             })
 
-  last-few : length (lastBlock (packing next used pending)) ≤ blockLength
-  unfolding lastBlock isPacking
+  last-few : length (waitingBlock (packing next used pending)) ≤ blockLength
+  unfolding waitingBlock isPacking
   last-few =
       let waits = packing next used pending .waiting in
       let low =
       ltb-true used cellsPerBlock
       (both (ltb used cellsPerBlock) _ (both (eqb (length pending) pendingLength) _ p .1) .0) in
       let few : length waits ≤ fullLength = omega (arith, length-take (cellLength * used) pending, low) in
-      by-test {X = length (lastBlock (packing next used pending)) ≤ blockLength}
+      by-test {X = length (waitingBlock (packing next used pending)) ≤ blockLength}
       (eqb (length waits) 0) (λ t. rw t (omega arith))
       (λ f. rw f (omega (arith, cells-block-length next waits few)))
 
@@ -184,17 +184,17 @@ module _ (next used : ℕ) (pending : List ℕ) (p : isPacking next used pending
   finish-done : (output : List ℕ) → blockLength ≤ length output
       → (finishOf next used pending output .number ≡ 0)
       × (take (finishOf next used pending output .length) (finishOf next used pending output .output)
-      ≡ lastBlock (packing next used pending))
+      ≡ waitingBlock (packing next used pending))
   unfolding finishOf
   finish-done output h =
-      let last = lastBlock (packing next used pending) in
+      let last = waitingBlock (packing next used pending) in
       let fits : length last ≤ length output = omega (arith, last-few) in
       let s = le-ltb (length output) (length last) fits in
       (rw (p, s), rw (p, s) (take-at last (drop (length last) output) (length last) refl))
 
 -- ---- after every call
 
-record Reached (identities : List ℕ) (r : Run) : Type 0 where
+record Reached (identities : List ℕ) (r : PackRun) : Type 0 where
   whole : length (r .taken) % blockLength ≡ 0
   lawful : isPacking (r .next) (r .used) (r .pending) ≡ true
   packer : packing (r .next) (r .used) (r .pending) ≡ pushed startPacking (keptCells identities (r .taken))
@@ -202,7 +202,7 @@ record Reached (identities : List ℕ) (r : Run) : Type 0 where
   positions : r .dropped ≡ dropped (r .taken)
 
 -- a refusal leaves the run as it was
-run-refused : (r : Run) (piece output positions : List ℕ) (why : Refusal)
+run-refused : (r : PackRun) (piece output positions : List ℕ) (why : Refusal)
     → ran r piece (keptAs (numberOf why) (r .next) (r .used) (r .pending) output positions) ≡ r
 run-refused r piece output positions why =
     rw (
@@ -212,7 +212,7 @@ run-refused r piece output positions why =
       append-nil (r .taken),
     )
 
-module _ (identities : List ℕ) (r : Run) (reached : Reached identities r) where
+module _ (identities : List ℕ) (r : PackRun) (reached : Reached identities r) where
   abbrev P : Packing
   P = packing (r .next) (r .used) (r .pending)
 
@@ -248,7 +248,7 @@ module _ (identities : List ℕ) (r : Run) (reached : Reached identities r) wher
         lawful-facts,
       )
 
-  module _ (c : Call)
+  module _ (c : PackCall)
       (t : Took (r .next) (r .used) (r .pending) (reached .lawful)
       (c .piece) identities (c .output) (c .positions)) where
     abbrev C : List ℕ
@@ -257,7 +257,7 @@ module _ (identities : List ℕ) (r : Run) (reached : Reached identities r) wher
     abbrev Q : Packing
     Q = pushed P C
 
-    abbrev after : Run
+    abbrev after : PackRun
     after =
         ran r (c .piece)
         (packed (r .next) (r .used) (r .pending) (reached .lawful) (c .piece) identities (c .output) (c .positions))
@@ -319,7 +319,7 @@ module _ (identities : List ℕ) (r : Run) (reached : Reached identities r) wher
 -- ---- the claim
 
 -- one call more
-reached-call : (identities : List ℕ) (c : Call) (r : Run) → Reached identities r
+reached-call : (identities : List ℕ) (c : PackCall) (r : PackRun) → Reached identities r
     → Reached identities
     (ran r (c .piece) (packOf (r .next) (r .used) (r .pending) (c .piece) identities (c .output) (c .positions)))
 reached-call identities c r h =
@@ -332,12 +332,13 @@ reached-call identities c r h =
     go (took t) = rw (t .is) (reached-next identities r h c t)
     go (refused why e) = rw (e, run-refused r (c .piece) (c .output) (c .positions) why) h
 
-reached-all : (identities : List ℕ) (calls : List Call) (r : Run)
+reached-all : (identities : List ℕ) (calls : List PackCall) (r : PackRun)
     → Reached identities r → Reached identities (packAll identities r calls)
 reached-all identities [] r h = h
 reached-all identities (c ∷ cs) r h = reached-all identities cs _ (reached-call identities c r h)
 
-reached-start : (identities pending : List ℕ) → length pending ≡ pendingLength → Reached identities (startRun pending)
+reached-start : (identities pending : List ℕ) → length pending ≡ pendingLength
+    → Reached identities (startPackRun pending)
 unfolding isPacking dropped upFrom blocksIn
 reached-start identities pending h =
     let none : keptCells identities [] ≡ [] = kept-is identities [] ∙ kept-none identities in
@@ -352,13 +353,13 @@ reached-start identities pending h =
 
 pub pieces-packed : PiecesPacked
 pieces-packed identities pending output calls h fits =
-    let r = packAll identities (startRun pending) calls in
-    let g = reached-all identities calls (startRun pending) (reached-start identities pending h) in
+    let r = packAll identities (startPackRun pending) calls in
+    let g = reached-all identities calls (startPackRun pending) (reached-start identities pending h) in
     let e = finish-done (r .next) (r .used) (r .pending) (g .lawful) output fits in
     record {
       ended = e .0;
       blocks =
-          ap₂ _++_ (g .written) (e .1 ∙ ap lastBlock (g .packer)) ∙ packed-archive identities (r .taken);
+          ap₂ _++_ (g .written) (e .1 ∙ ap waitingBlock (g .packer)) ∙ packed-archive identities (r .taken);
       few = rows-few identities r g;
       positions = g .positions;
     }

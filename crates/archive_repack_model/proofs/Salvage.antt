@@ -20,7 +20,7 @@ use Rattle.archive_model.specs.Append.{verdict}
 use Rattle.archive_model.proofs.Buffers.{buffer-length, rows-in}
 use Rattle.archive_model.proofs.Cursor.{verdict-facts, blocks-of, is-exact, written-verdict}
 use Rattle.archive_repack_model.specs.Repack.{soundRows, dropped, fronted, Salvaged, salvageOf}
-use Rattle.archive_repack_model.specs.Claims.{salvagedFront, Kept, Intact, SalvagedAgain, Untouched}
+use Rattle.archive_repack_model.specs.Claims.{salvagedFront, RowsKept, Intact, SalvagedAgain, Untouched}
 use Rattle.archive_repack_model.proofs.Rows.{sound-rows-fit, sound-rows-few, intact-rows, intact-dropped}
 
 -- ---- the three answers
@@ -113,7 +113,7 @@ front-is buffer output positions z =
     ap (λ (s : Salvaged). take (length buffer) (s .output)) (d .is)
     ∙ take-at written (drop (length written) output) (length buffer) (salvaged-length buffer (d .whole))
 
-pub kept : Kept
+pub kept : RowsKept
 kept buffer output positions z =
     let d = done buffer output positions z in
     let e = front-is buffer output positions z in

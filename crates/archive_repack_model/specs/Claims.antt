@@ -12,7 +12,7 @@ use Rattle.archive_model.specs.Row.{Row, isRow, isSound, isBlank}
 use Rattle.archive_model.specs.Buffer.{maxRows, blocksFor, blocksIn, rowsIn, archiveOf, bufferOf}
 use Rattle.archive_model.specs.Append.{verdict, appendOf, blockAt}
 use Rattle.archive_repack_model.specs.Repack.{soundRows, isDropped, dropped, salvageOf, maxIdentities, others, removeOf}
-use Rattle.archive_repack_model.specs.Packer.{Packing, packing, pendingLength, packedAs, Call, Run, startRun, packAll, endOf}
+use Rattle.archive_repack_model.specs.Packer.{Packing, packing, pendingLength, packedAs, PackCall, PackRun, startPackRun, packAll, finishRun}
 
 -- ---- salvage
 
@@ -20,9 +20,9 @@ use Rattle.archive_repack_model.specs.Packer.{Packing, packing, pendingL
 abbrev pub salvagedFront : List ℕ → List ℕ → List ℕ → List ℕ
 salvagedFront buffer output positions = take (length buffer) (salvageOf buffer output positions .output)
 
--- Kept: "Rows are kept in order, none altered, none made up". The output is an archive.
-abbrev pub Kept : Type 0
-Kept =
+-- Rows kept: "Rows are kept in order, none altered, none made up". The output is an archive.
+abbrev pub RowsKept : Type 0
+RowsKept =
     (buffer output positions : List ℕ) → salvageOf buffer output positions .number ≡ 0
     → (verdict (salvagedFront buffer output positions) .number ≡ 0)
     × (rowsIn (salvagedFront buffer output positions) ≡ soundRows buffer)
@@ -82,9 +82,9 @@ pub record Untouched (buffer output positions : List ℕ) : Type 0 where
 
 -- ---- removal
 
--- Remains: the other rows in order, in an archive of the same length.
-abbrev pub Remains : Type 0
-Remains =
+-- Other rows remain: the other rows in order, in an archive of the same length.
+abbrev pub OtherRowsRemain : Type 0
+OtherRowsRemain =
     (buffer identities : List ℕ) → removeOf buffer identities .number ≡ 0
     → (verdict (removeOf buffer identities .buffer) .number ≡ 0)
     × (rowsIn (removeOf buffer identities .buffer) ≡ others identities (rowsIn buffer))
@@ -130,10 +130,10 @@ BothLists =
 -- after calls, and the call that ends them. The end is answered 0. All blocks written are the archive of the rows that
 -- stay, of the pieces that were taken. An archive of 2^32 blocks has room for these rows. The positions are those of
 -- the dropped blocks.
-pub record PackedWhole (identities : List ℕ) (r : Run) (output : List ℕ) : Type 0 where
-  pub ended : endOf r output .number ≡ 0
+pub record PackedWhole (identities : List ℕ) (r : PackRun) (output : List ℕ) : Type 0 where
+  pub ended : finishRun r output .number ≡ 0
   pub blocks :
-      r .written ++ take (endOf r output .length) (endOf r output .output)
+      r .written ++ take (finishRun r output .length) (finishRun r output .output)
       ≡ archiveOf (others identities (soundRows (r .taken)))
   pub few : length (others identities (soundRows (r .taken))) ≤ maxRows
   pub positions : r .dropped ≡ dropped (r .taken)
@@ -141,12 +141,12 @@ pub record PackedWhole (identities : List ℕ) (r : Run) (output : List ℕ) : T
 -- Pieces are packed: so it is after any calls with pieces, also with refused calls among them.
 abbrev pub PiecesPacked : Type 0
 PiecesPacked =
-    (identities pending output : List ℕ) (calls : List Call) → length pending ≡ pendingLength
-    → blockLength ≤ length output → PackedWhole identities (packAll identities (startRun pending) calls) output
+    (identities pending output : List ℕ) (calls : List PackCall) → length pending ≡ pendingLength
+    → blockLength ≤ length output → PackedWhole identities (packAll identities (startPackRun pending) calls) output
 
--- Held: the buffer that is lent to a packer holds its packing after a piece, and the next piece reads it there.
-abbrev pub Held : Type 0
-Held =
+-- Packing held: the buffer that is lent to a packer holds its packing after a piece, and the next piece reads it there.
+abbrev pub PackingHeld : Type 0
+PackingHeld =
     (count : ℕ) (p : Packing) (output positions : List ℕ) → length (p .waiting) % cellLength ≡ 0
     → packing (packedAs count p output positions .next) (packedAs count p output positions .used)
     (packedAs count p output positions .pending)

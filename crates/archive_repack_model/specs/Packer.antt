@@ -49,8 +49,8 @@ pushed p cells = record {
 }
 
 -- the last block, if cells wait
-unfoldable pub lastBlock : Packing → List ℕ
-lastBlock p = cond (eqb (length (p .waiting)) 0) [] (cellsBlock (p .next) (p .waiting))
+unfoldable pub waitingBlock : Packing → List ℕ
+waitingBlock p = cond (eqb (length (p .waiting)) 0) [] (cellsBlock (p .next) (p .waiting))
 
 -- the cells of rows, as bytes
 abbrev pub cellsOf : List Row → List ℕ
@@ -141,25 +141,25 @@ pub record Finished : Type 0 where
 unfoldable pub finishOf : ℕ → ℕ → List ℕ → List ℕ → Finished
 finishOf next used pending output =
     cond (not (isPacking next used pending)) (record { number = numberOf NotAccepted; length = 0; output = output })
-    (cond (ltb (length output) (length (lastBlock (packing next used pending))))
+    (cond (ltb (length output) (length (waitingBlock (packing next used pending))))
     (record { number = numberOf ShortOutput; length = 0; output = output })
     (record {
       number = 0;
-      length = length (lastBlock (packing next used pending));
-      output = fronted (lastBlock (packing next used pending)) output;
+      length = length (waitingBlock (packing next used pending));
+      output = fronted (waitingBlock (packing next used pending)) output;
     }))
 
 -- ---- what several calls give together
 
 -- what a call is lent, apart from the packer's buffer
-pub record Call : Type 0 where
+pub record PackCall : Type 0 where
   pub piece : List ℕ
   pub output : List ℕ
   pub positions : List ℕ
 
 -- after some calls: the packer; all blocks that were written; the positions of dropped blocks, counted from the first
 -- piece; and all pieces that were taken
-pub record Run : Type 0 where
+pub record PackRun : Type 0 where
   pub next : ℕ
   pub used : ℕ
   pub pending : List ℕ
@@ -168,11 +168,11 @@ pub record Run : Type 0 where
   pub taken : List ℕ
 
 -- before the first call
-abbrev pub startRun : List ℕ → Run
-startRun pending = record { next = 0; used = 0; pending = pending; written = []; dropped = []; taken = [] }
+abbrev pub startPackRun : List ℕ → PackRun
+startPackRun pending = record { next = 0; used = 0; pending = pending; written = []; dropped = []; taken = [] }
 
 -- after a call for a piece, with its result a. If the result is 0, the call wrote as many blocks as `next` rose by.
-abbrev pub ran : Run → List ℕ → Packed → Run
+abbrev pub ran : PackRun → List ℕ → Packed → PackRun
 ran r piece a = record {
   next = a .next;
   used = a .used;
@@ -184,7 +184,7 @@ ran r piece a = record {
 }
 
 -- after all calls
-abbrev pub packAll : List ℕ → Run → List Call → Run
+abbrev pub packAll : List ℕ → PackRun → List PackCall → PackRun
 packAll identities r [] = r
 packAll identities r (c ∷ cs) =
     packAll identities
@@ -192,5 +192,5 @@ packAll identities r (c ∷ cs) =
     (packOf (r .next) (r .used) (r .pending) (c .piece) identities (c .output) (c .positions))) cs
 
 -- the call that ends the run
-abbrev pub endOf : Run → List ℕ → Finished
-endOf r output = finishOf (r .next) (r .used) (r .pending) output
+abbrev pub finishRun : PackRun → List ℕ → Finished
+finishRun r output = finishOf (r .next) (r .used) (r .pending) output

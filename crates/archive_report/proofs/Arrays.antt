@@ -12,7 +12,7 @@ use lib.ListN.{length, getD, drop, length-drop}
 use lib.Seq.{drop-cons, getD-drop, ext-getD}
 use Rattle.archive_report.specs.declared.tally.Tally.{Tally}
 use Rattle.archive_report_model.specs.Report.{maxLines}
-use Rattle.archive_report.specs.Lines.{lineLength, linesLength, lineAt, lineNumbers, linesFrom, linesAt, linesNumbers, written}
+use Rattle.archive_report.specs.Lines.{lineLength, linesLength, lineAt, lineNumbers, linesFrom, linesAt, linesNumbers, withLines}
 use Rattle.archive_report.specs.Private.{SameBehind, Grows}
 use Rattle.archive_report.proofs.Windows.{lines-count, lines-next, lines-none}
 
@@ -80,8 +80,8 @@ lines-are xs a (suc n) h =
 
 pub written-is : (xs old : List ℕ) (n : ℕ) → length xs ≡ length old
     → lineLength * n ≤ length xs → SameBehind (lineLength * n) old xs
-    → xs ≡ written (linesAt xs n) old
-unfolding written
+    → xs ≡ withLines (linesAt xs n) old
+unfolding withLines
 written-is xs old n l h b =
     let z : 0 + n ≡ n = omega arith in
     let same : drop (lineLength * n) xs ≡ drop (lineLength * n) old =
@@ -95,8 +95,8 @@ written-is xs old n l h b =
 
 -- after blocks
 module _ (t r : Tally) (old new : List ℕ) (g : Grows t r old new) (l : length old ≡ linesLength) where
-  pub lines-new : length new ≡ linesLength → r .over ≡ false → new ≡ written (linesAt new (r .count)) old
+  pub lines-new : length new ≡ linesLength → r .over ≡ false → new ≡ withLines (linesAt new (r .count)) old
   lines-new m e = let f = g .few in written-is new old (r .count) (m ∙ sym l) (omega arith) (g .behind e)
 
-  pub lines-held : old ≡ written (linesAt old (r .count)) old
+  pub lines-held : old ≡ withLines (linesAt old (r .count)) old
   lines-held = let f = g .few in written-is old old (r .count) refl (omega arith) (λ k h. refl)

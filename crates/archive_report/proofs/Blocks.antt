@@ -35,8 +35,8 @@ use Rattle.archive_model.specs.Identity.{identityOf}
 use Rattle.archive_file.proofs.Scans.{blocksFrom}
 use Rattle.archive_model.proofs.Scans.{scan-facts, rows-after, scanned-next}
 use Rattle.archive_file.proofs.Cells.{used-is, bytes-shown}
-use Rattle.archive_report_model.specs.Report.{Line, Report, isReport, maxArchives, maxLines, lineOf, joined, insert, addRows, keptIn, looseIn, rowsOfLine, isRising, sumBy}
-use Rattle.archive_report_model.specs.Pieces.{Tally, startTally, countedRows, counted, addBlock, addBlocks, Adding, isAdding}
+use Rattle.archive_report_model.specs.Report.{Line, Report, isReport, maxArchives, maxLines, lineOfRow, mergedLine, insert, addRows, keptIn, looseIn, rowsOfLine, isRising, sumBy}
+use Rattle.archive_report_model.specs.Pieces.{Tally, startTally, countedRows, tallyAfter, addBlock, addBlocks, Adding, isAdding}
 use Rattle.archive_report_model.proofs.Adding.{sound-facts, counted-length, blocks-one, tally-facts, going}
 use Rattle.archive_report_model.proofs.Order.{add-first, add-none}
 use Rattle.archive_report_model.proofs.Additions.{facts}
@@ -75,10 +75,10 @@ shown-identity cell l h =
 
 -- ---- the rows of lines
 
-both-kinds : (a b : Line) → rowsOfLine (joined a b) ≡ rowsOfLine a + rowsOfLine b
+both-kinds : (a b : Line) → rowsOfLine (mergedLine a b) ≡ rowsOfLine a + rowsOfLine b
 both-kinds a b = omega arith
 
-one-row : (r : Row) → rowsOfLine (lineOf r) ≡ 1
+one-row : (r : Row) → rowsOfLine (lineOfRow r) ≡ 1
 one-row r = go (r .loose)
   where
     go : (b : Bool) → _≡_ {A = ℕ} (cond b 0 1 + cond b 1 0) 1
@@ -88,7 +88,7 @@ one-row r = go (r .loose)
 total-added : (lines : List Line) (rows : List Row) → totalOf (addRows rows lines) ≡ totalOf lines + length rows
 total-added lines [] = ap totalOf (add-none lines) ∙ (omega arith)
 total-added lines (r ∷ rows) =
-    ap totalOf (add-first r rows lines) ∙ sum-insert rowsOfLine both-kinds (lineOf r) (addRows rows lines)
+    ap totalOf (add-first r rows lines) ∙ sum-insert rowsOfLine both-kinds (lineOfRow r) (addRows rows lines)
     ∙ omega (arith, one-row r, total-added lines rows)
 
 -- ---- the rows of a block
@@ -156,17 +156,17 @@ module _ (block : List ℕ) where
       }
 
   module _ (used n i r : ℕ) (start : List Line) (xs ys : List ℕ) (go : Running used start n i xs)
-      (h : i < used) (ins : Inserted n (lineOf (rowIn (blockCell i block))) xs ys r) where
+      (h : i < used) (ins : Inserted n (lineOfRow (rowIn (blockCell i block))) xs ys r) where
     step : addRows (rowsBetween block 0 used) start
         ≡ addRows (rowsBetween block (i + 1) (used - (i + 1)))
-        (insert (lineOf (rowIn (blockCell i block))) (linesAt xs n))
+        (insert (lineOfRow (rowIn (blockCell i block))) (linesAt xs n))
     unfolding addRows
     step = sym (go .rest) ∙ ap (λ (rows : List Row). addRows rows (linesAt xs n)) (turn used i h)
 
     pub running-next : r ≤ maxLines → Running used start r (i + 1) ys
     running-next f =
         let is = ins .lines f in
-        let a = lineOf (rowIn (blockCell i block)) in
+        let a = lineOfRow (rowIn (blockCell i block)) in
         record {
           long = ins .long ∙ go .long;
           few = f;
@@ -182,7 +182,7 @@ module _ (block : List ℕ) where
         omega (
           arith,
           ins .count,
-          more-added (insert (lineOf (rowIn (blockCell i block))) (linesAt xs n))
+          more-added (insert (lineOfRow (rowIn (blockCell i block))) (linesAt xs n))
               (rowsBetween block (i + 1) (used - (i + 1))),
           ap length step,
         )
@@ -260,7 +260,7 @@ module _ (block : List ℕ) where
       let grown : next .rows ≡ t .scan .rows + length rows =
       rows-after block (t .scan) ∙ omega (arith, counted-length block) in
       let scanned = scanned-next block (t .scan) (s .scanned) h in
-      by-test {X = Sane (counted t rows next)} (t .over || ltb maxLines (length (addRows rows (t .lines))))
+      by-test {X = Sane (tallyAfter t rows next)} (t .over || ltb maxLines (length (addRows rows (t .lines))))
       (λ o. rw o
       (record { scanned = scanned; few = omega arith; rising = refl; rows = omega arith; totals = omega arith }))
       (λ o.

@@ -15,8 +15,8 @@ use Rattle.base_lists.proofs.Tests.{by-test}
 use Rattle.block_layout.specs.Block.{blockLength}
 use Rattle.archive_model.specs.Buffer.{Found, At, None, maxBlocks, maxRows, isWhole, blocksIn, stageFound}
 use Rattle.archive_model.specs.Append.{verdict, isScan}
-use Rattle.archive_report_model.specs.Report.{Report, maxArchives, maxLines, isTally, isReport, answer, addOf, shareOf, lineOfReport, noLine}
-use Rattle.archive_report_model.specs.Pieces.{Tally, addBlocks, closed, closing, Adding, adding, rowsSoFar, isAdding, isPiece, fed, feedOf, endedOf}
+use Rattle.archive_report_model.specs.Report.{Report, maxArchives, maxLines, isTally, isReport, addition, addOf, shareOf, lineOfReport, noLine}
+use Rattle.archive_report_model.specs.Pieces.{Tally, addBlocks, tallyAddition, closing, Adding, adding, rowsSoFar, isAdding, isPiece, pieceAnswer, addPieceOf, endedOf}
 
 -- beside a refusal the lines stay
 pub stay : {xs : List ℕ} (n : ℕ) (why : Refusal) (new old : List ℕ)
@@ -35,27 +35,29 @@ pub closing-zero : (s : Report) (t : Tally) → closing s t .number ≡ 0
 unfolding closing
 closing-zero s t z = go (stageFound (t .scan .stage)) z
   where
-    go : (f : Found) → closed s t f .number ≡ 0 → (t .over ≡ false) × (closed s t f .next .lines ≡ t .lines)
+    go : (f : Found) → tallyAddition s t f .number ≡ 0
+        → (t .over ≡ false) × (tallyAddition s t f .next .lines ≡ t .lines)
     go (At k) z = absurd (refused-number Mismatch z)
     go None z =
-        by-test {X = (t .over ≡ false) × (closed s t None .next .lines ≡ t .lines)} (leb maxArchives (s .archives))
+        by-test {X = (t .over ≡ false) × (tallyAddition s t None .next .lines ≡ t .lines)}
+        (leb maxArchives (s .archives))
         (λ m. absurd (refused-number Argument (rw m at z)))
         (λ m.
-        by-test {X = (t .over ≡ false) × (closed s t None .next .lines ≡ t .lines)} (t .over)
+        by-test {X = (t .over ≡ false) × (tallyAddition s t None .next .lines ≡ t .lines)} (t .over)
         (λ o. absurd (refused-number Transmitters (rw (m, o) at z)))
         (λ o. (o, rw (m, o))))
 
 module _ (s : Report) (t : Tally) where
-  pub closed-full : maxArchives ≤ s .archives → answer (numberOf Argument) 0 s ≡ closed s t None
+  pub closed-full : maxArchives ≤ s .archives → addition (numberOf Argument) 0 s ≡ tallyAddition s t None
   closed-full h = rw (le-leb maxArchives (s .archives) h)
 
   module _ (more : s .archives < maxArchives) where
-    pub closed-over : t .over ≡ true → answer (numberOf Transmitters) 0 s ≡ closed s t None
+    pub closed-over : t .over ≡ true → addition (numberOf Transmitters) 0 s ≡ tallyAddition s t None
     closed-over h = rw (lt-leb maxArchives (s .archives) more, h)
 
     pub closed-done : t .over ≡ false
-        → answer 0 0 (record { archives = s .archives + 1; lines = t .lines; kept = t .kept; loose = t .loose })
-        ≡ closed s t None
+        → addition 0 0 (record { archives = s .archives + 1; lines = t .lines; kept = t .kept; loose = t .loose })
+        ≡ tallyAddition s t None
     closed-done h = rw (lt-leb maxArchives (s .archives) more, h)
 
 -- ---- the test of a report
@@ -93,7 +95,7 @@ module _ (s : Report) where
 -- ---- the calls
 
 module _ (s : Report) (no : isReport s ≡ false) where
-  pub add-not : (buffer : List ℕ) → answer (numberOf NotAccepted) 0 s ≡ addOf s buffer
+  pub add-not : (buffer : List ℕ) → addition (numberOf NotAccepted) 0 s ≡ addOf s buffer
   unfolding addOf
   add-not buffer = rw no
 
@@ -106,7 +108,7 @@ module _ (s : Report) (no : isReport s ≡ false) where
   line-not i = rw no
 
 module _ (s : Report) (yes : isReport s ≡ true) where
-  pub add-size : (buffer : List ℕ) → isWhole (length buffer) ≡ false → answer (numberOf Size) 0 s ≡ addOf s buffer
+  pub add-size : (buffer : List ℕ) → isWhole (length buffer) ≡ false → addition (numberOf Size) 0 s ≡ addOf s buffer
   unfolding addOf verdict
   add-size buffer h = rw (yes, h)
 
@@ -175,22 +177,23 @@ module _ (a : Adding) where
             )
 
   module _ (no : isAdding a ≡ false) where
-    pub feed-not : (piece : List ℕ) → fed (numberOf NotAccepted) a ≡ feedOf a piece
-    unfolding feedOf
+    pub feed-not : (piece : List ℕ) → pieceAnswer (numberOf NotAccepted) a ≡ addPieceOf a piece
+    unfolding addPieceOf
     feed-not piece = rw no
 
-    pub end-not : answer (numberOf NotAccepted) 0 (a .report) ≡ endedOf a
+    pub end-not : addition (numberOf NotAccepted) 0 (a .report) ≡ endedOf a
     unfolding endedOf
     end-not = rw no
 
   module _ (yes : isAdding a ≡ true) where
-    pub feed-size : (piece : List ℕ) → isPiece (a .tally .scan) piece ≡ false → fed (numberOf Size) a ≡ feedOf a piece
-    unfolding feedOf
+    pub feed-size : (piece : List ℕ) → isPiece (a .tally .scan) piece ≡ false
+        → pieceAnswer (numberOf Size) a ≡ addPieceOf a piece
+    unfolding addPieceOf
     feed-size piece h = rw (yes, h)
 
     pub feed-done : (piece : List ℕ) → isPiece (a .tally .scan) piece ≡ true → (t : Tally)
-        → t ≡ addBlocks (a .tally) (blocksIn piece) → fed 0 (adding (a .report) t) ≡ feedOf a piece
-    unfolding feedOf
+        → t ≡ addBlocks (a .tally) (blocksIn piece) → pieceAnswer 0 (adding (a .report) t) ≡ addPieceOf a piece
+    unfolding addPieceOf
     feed-done piece h t e = rw (yes, h, e)
 
     pub end-done : closing (a .report) (a .tally) ≡ endedOf a

@@ -16,7 +16,7 @@ use borrow.Author.Tests.{lt-ltb, ltb-true, ltb-false, leb-true, leb-false, eq-eq
 use Rattle.base_lists.specs.Lists.{all}
 use Rattle.base_lists.proofs.Choice.{both}
 use Rattle.base_lists.proofs.Tests.{and-true, by-test}
-use Rattle.archive_report_model.specs.Report.{Line, maxLines, joined, insert}
+use Rattle.archive_report_model.specs.Report.{Line, maxLines, mergedLine, insert}
 use Rattle.archive_report_model.proofs.Order.{insert-before, insert-same, insert-after, insert-nil}
 use Rattle.archive_report.specs.Lines.{lineLength, lineAt, linesFrom, linesAt}
 use Rattle.archive_report.specs.Private.{Ordered, Place, SameBehind, Gap, Stored, Inserted}
@@ -173,7 +173,8 @@ module _ (old : List ℕ) (n r : ℕ) (a : Line) (p : Place old n (a .identity) 
       (all-before old (a .identity) 0 r (λ i h. p .below i (omega arith)))
 
   module _ (there : r < n) (same : lineAt old r .identity ≡ a .identity) where
-    at-line : insert a (linesAt old n) ≡ linesAt old r ++ (joined a (lineAt old r) ∷ linesFrom old (suc r) (n - suc r))
+    at-line : insert a (linesAt old n)
+        ≡ linesAt old r ++ (mergedLine a (lineAt old r) ∷ linesFrom old (suc r) (n - suc r))
     at-line =
         let e : n - r ≡ suc (n - suc r) = omega arith in
         split
@@ -182,7 +183,7 @@ module _ (old : List ℕ) (n r : ℕ) (a : Line) (p : Place old n (a .identity) 
         ∙ ap (λ (l : List Line). linesAt old r ++ l)
         (insert-same a (lineAt old r) (linesFrom old (suc r) (n - suc r)) (sym same))
 
-    pub joined-there : (new : List ℕ) → Stored r (joined a (lineAt old r)) old new → Inserted n a old new n
+    pub joined-there : (new : List ℕ) → Stored r (mergedLine a (lineAt old r)) old new → Inserted n a old new n
     joined-there new s =
         let e : n - r ≡ suc (n - suc r) = omega arith in
         let is : linesAt new n ≡ insert a (linesAt old n) =

@@ -43,5 +43,5 @@ linesNumbers [] = []
 linesNumbers (a ∷ lines) = lineNumbers a ++ linesNumbers lines
 
 -- an array after lines are written at its front; the rest is unchanged
-unfoldable pub written : List Line → List ℕ → List ℕ
-written lines old = linesNumbers lines ++ drop (lineLength * length lines) old
+unfoldable pub withLines : List Line → List ℕ → List ℕ
+withLines lines old = linesNumbers lines ++ drop (lineLength * length lines) old

@@ -28,8 +28,8 @@ unfoldable pub rowsBetween : List ℕ → ℕ → ℕ → List Row
 rowsBetween block a n = map (λ i. rowIn (blockCell i block)) (upFrom a n)
 
 -- the line that one row gives, by its transmitter, time and kind
-abbrev pub rowLine : ℕ → ℕ → Bool → Line
-rowLine identity time loose = record {
+abbrev pub lineFor : ℕ → ℕ → Bool → Line
+lineFor identity time loose = record {
   identity = identity;
   kept = cond loose 0 1;
   loose = cond loose 1 0;
@@ -141,8 +141,8 @@ Starts count kept loose t =
     ≡ record { lines = linesAt lines count; kept = kept; loose = loose; over = false; scan = startScan }
 
 -- a refused call leaves the report unchanged
-abbrev pub keptWith : Report → Refusal → model.Addition
-keptWith s why = model.answer (numberOf why) 0 (reportOf s)
+abbrev pub refusedReport : Report → Refusal → model.Addition
+refusedReport s why = model.addition (numberOf why) 0 (reportOf s)
 
 -- no line, and the reason
 abbrev pub noLineFor : Refusal → model.LineAnswer

@@ -3,11 +3,11 @@ use Prim.Native.Nat.{ℕ}
 use mathlib.Core.Bool.{cond}
 use mathlib.Core.List.{List}
 use lib.Dec.{eqb}
-use Rattle.base_refusal.specs.Number.{numberOf}
+use Rattle.base_refusal.specs.Number.{numberOf, outcomeNumber}
 use Rattle.base_refusal.specs.declared.Refusal.the-variants.{Mismatch}
-use Rattle.archive_file.specs.declared.Outcome.{Outcome}
-use Rattle.archive_file.specs.declared.Outcome.the-variants as outcome
-use Rattle.archive_file.specs.Archive.{scanOf, takenNumber}
+use Rattle.archive_file.specs.declared.ArchiveOutcome.{ArchiveOutcome}
+use Rattle.archive_file.specs.declared.ArchiveOutcome.the-variants as outcome
+use Rattle.archive_file.specs.Archive.{scanOf}
 use Rattle.archive_report_model.specs.Report as model
 use Rattle.archive_report_model.specs.Pieces as pieces
 use Rattle.archive_report.specs.declared.Report.{Report}
@@ -19,7 +19,7 @@ use Rattle.archive_report.specs.declared.Share.the-variants as share
 use Rattle.archive_report.specs.declared.Looked.{Looked}
 use Rattle.archive_report.specs.declared.Looked.the-variants as looked
 use Rattle.archive_report.specs.declared.LineAt.{LineAt}
-use Rattle.archive_report.specs.Lines.{linesAt, written}
+use Rattle.archive_report.specs.Lines.{linesAt, withLines}
 
 -- ---- a report: its lines are the first `count` of the array
 
@@ -28,18 +28,19 @@ reportOf s = record { archives = s .archives; lines = linesAt (s .lines) (s .cou
 
 -- ---- results: the number, the position that goes with 12, and what else is returned
 
-abbrev pub outcomeNumber : Outcome → ℕ
-outcomeNumber outcome.Done = 0
-outcomeNumber (outcome.Damaged k) = numberOf Mismatch
-outcomeNumber (outcome.Refused why) = numberOf why
+abbrev pub archiveOutcomeNumber : ArchiveOutcome → ℕ
+archiveOutcomeNumber outcome.Done = 0
+archiveOutcomeNumber (outcome.Damaged k) = numberOf Mismatch
+archiveOutcomeNumber (outcome.Refused why) = numberOf why
 
-abbrev pub outcomePosition : Outcome → ℕ
-outcomePosition outcome.Done = 0
-outcomePosition (outcome.Damaged k) = k
-outcomePosition (outcome.Refused why) = 0
+abbrev pub archiveOutcomePosition : ArchiveOutcome → ℕ
+archiveOutcomePosition outcome.Done = 0
+archiveOutcomePosition (outcome.Damaged k) = k
+archiveOutcomePosition (outcome.Refused why) = 0
 
 abbrev pub addedResult : Added → model.Addition
-addedResult r = model.answer (outcomeNumber (r .answer)) (outcomePosition (r .answer)) (reportOf (r .next))
+addedResult r = model.addition (archiveOutcomeNumber (r .answer)) (archiveOutcomePosition (r .answer))
+    (reportOf (r .next))
 
 abbrev pub shareResult : Share → model.Share
 shareResult (share.PerMille t) = record { number = 0; thousandths = t }
@@ -75,17 +76,17 @@ addingOf a = record {
   };
 }
 
-abbrev pub feedResult : Fed → pieces.Feeding
-feedResult r = pieces.fed (takenNumber (r .answer)) (addingOf (r .next))
+abbrev pub addPieceResult : Fed → pieces.PieceAdded
+addPieceResult r = pieces.pieceAnswer (outcomeNumber (r .answer)) (addingOf (r .next))
 
 -- ---- every number of the array of lines: the lines, and after them what was there before; all unchanged with a
 -- refusal
 
 abbrev pub linesAdded : model.Addition → List ℕ → List ℕ
-linesAdded a old = cond (eqb (a .number) 0) (written (a .next .lines) old) old
+linesAdded a old = cond (eqb (a .number) 0) (withLines (a .next .lines) old) old
 
-abbrev pub linesFed : pieces.Feeding → List ℕ → List ℕ
-linesFed a old = cond (eqb (a .number) 0) (written (a .next .tally .lines) old) old
+abbrev pub linesFed : pieces.PieceAdded → List ℕ → List ℕ
+linesFed a old = cond (eqb (a .number) 0) (withLines (a .next .tally .lines) old) old
 
 -- when an archive has ended, the array of the report gets the lines that were added to
 abbrev pub linesEnded : model.Addition → List ℕ → List ℕ → List ℕ

@@ -2,10 +2,10 @@
 mod lines;
 mod tally;
 
-use archive_file::Outcome;
+use archive_file::ArchiveOutcome;
 use archive_file::Scan;
 use archive_file::Stage;
-use archive_file::Taken;
+use base_refusal::Outcome;
 use base_refusal::Refusal;
 use block_layout::BLOCK_LENGTH;
 use tally::Tally;
@@ -17,10 +17,10 @@ ghost use Rattle.base_refusal.specs.Number.{numberOf};
 ghost use Rattle.block_layout.specs.Block.{blockLength};
 ghost use Rattle.archive_report_model.specs.Report as model;
 ghost use Rattle.archive_model.specs.Buffer.{None, isWhole, maxBlocks};
-ghost use Rattle.archive_report_model.specs.Pieces.{adding, closed, closing, startAdding, isAdding, fed, feedOf, endedOf};
+ghost use Rattle.archive_report_model.specs.Pieces.{adding, tallyAddition, closing, startAdding, isAdding, pieceAnswer, addPieceOf, endedOf};
 ghost use Rattle.archive_report.specs.Lines.{linesLength};
-ghost use Rattle.archive_report.specs.Report.{reportOf, addedResult, shareResult, lineResult, addingOf, feedResult, linesAdded, linesFed, linesEnded};
-ghost use Rattle.archive_report.specs.Private.{tallyOf, keptWith, noLineFor, Starts};
+ghost use Rattle.archive_report.specs.Report.{reportOf, addedResult, shareResult, lineResult, addingOf, addPieceResult, linesAdded, linesFed, linesEnded};
+ghost use Rattle.archive_report.specs.Private.{tallyOf, refusedReport, noLineFor, Starts};
 
 // How many numbers a line has.
 pub(crate) const LINE_LENGTH: usize = 5;
@@ -37,7 +37,7 @@ pub struct Report {
 // The report after an archive; with a refusal, the report that was handed in.
 pub struct Added {
     pub next: Report,
-    pub answer: Outcome,
+    pub answer: ArchiveOutcome,
 }
 
 // The share of a report's rows in receptions, in whole thousandths.
@@ -77,7 +77,7 @@ pub struct Adding {
 // What is known after a piece; with a refusal, what was handed in.
 pub struct Fed {
     pub next: Adding,
-    pub answer: Taken,
+    pub answer: Outcome,
 }
 
 impl Report {
@@ -179,9 +179,9 @@ impl Adding {
     // Adds the blocks of a piece, in order. Refused: 11 if no pieces can give these numbers, 16 for a piece that isn't whole blocks, or if there are
     // then more than 2^32 blocks in all; then nothing is changed.
     pub fn feed(self, piece: &[u8]) -> Fed
-        ensures { λ r. ⌜ feedResult r ≡ feedOf (addingOf self) (now (piece .entry)) ⌝ }
+        ensures { λ r. ⌜ addPieceResult r ≡ addPieceOf (addingOf self) (now (piece .entry)) ⌝ }
         ensures { λ r. ⌜ (r .next .before ≡ self .before)
-            × (r .next .lines ≡ linesFed (feedOf (addingOf self) (now (piece .entry))) (self .lines)) ⌝ }
+            × (r .next .lines ≡ linesFed (addPieceOf (addingOf self) (now (piece .entry))) (self .lines)) ⌝ }
     {
         if !is_adding(self) {
             return unchanged(self, Refusal::NotAccepted);
@@ -247,11 +247,11 @@ fn is_report(report: Report) -> bool
 
 // A refusal: the report is unchanged.
 fn kept(s: Report, why: Refusal) -> Added
-    ensures { λ r. ⌜ (addedResult r ≡ keptWith s why) × (r .next .lines ≡ s .lines) ⌝ }
+    ensures { λ r. ⌜ (addedResult r ≡ refusedReport s why) × (r .next .lines ≡ s .lines) ⌝ }
 {
     Added {
         next: s,
-        answer: Outcome::Refused(why),
+        answer: ArchiveOutcome::Refused(why),
     }
 }
 
@@ -295,14 +295,14 @@ fn close(before: Report, t: Tally, lines: [u64; Report::MAX_LINES * LINE_LENGTH]
         Stage::Ended => sum_up(before, t, lines),
         Stage::Wrong(k) => Added {
             next: before,
-            answer: Outcome::Damaged(k),
+            answer: ArchiveOutcome::Damaged(k),
         },
     }
 }
 
 // The same if every block matches.
 fn sum_up(before: Report, t: Tally, lines: [u64; Report::MAX_LINES * LINE_LENGTH]) -> Added
-    ensures { λ r. ⌜ (addedResult r ≡ closed (reportOf before) (tallyOf t lines) None)
+    ensures { λ r. ⌜ (addedResult r ≡ tallyAddition (reportOf before) (tallyOf t lines) None)
         × (r .next .lines ≡ linesEnded (addedResult r) lines (before .lines)) ⌝ }
 {
     let archives = before.archives;
@@ -320,7 +320,7 @@ fn sum_up(before: Report, t: Tally, lines: [u64; Report::MAX_LINES * LINE_LENGTH
             loose: t.loose,
             lines,
         },
-        answer: Outcome::Done,
+        answer: ArchiveOutcome::Done,
     }
 }
 
@@ -342,17 +342,17 @@ fn so_far(a: Adding) -> Tally
 
 // A refusal: nothing is changed.
 fn unchanged(a: Adding, why: Refusal) -> Fed
-    ensures { λ r. ⌜ (feedResult r ≡ fed (numberOf why) (addingOf a)) × (r .next ≡ a) ⌝ }
+    ensures { λ r. ⌜ (addPieceResult r ≡ pieceAnswer (numberOf why) (addingOf a)) × (r .next ≡ a) ⌝ }
 {
     Fed {
         next: a,
-        answer: Taken::Refused(why),
+        answer: Outcome::Refused(why),
     }
 }
 
 // What is known after the blocks of a piece, with these lines.
 fn taken(a: Adding, t: Tally, lines: [u64; Report::MAX_LINES * LINE_LENGTH]) -> Fed
-    ensures { λ r. ⌜ (feedResult r ≡ fed 0 (adding (reportOf (a .before)) (tallyOf t lines)))
+    ensures { λ r. ⌜ (addPieceResult r ≡ pieceAnswer 0 (adding (reportOf (a .before)) (tallyOf t lines)))
         × (r .next .before ≡ a .before) × (r .next .lines ≡ lines) ⌝ }
 {
     let before = a.before;
@@ -367,7 +367,7 @@ fn taken(a: Adding, t: Tally, lines: [u64; Report::MAX_LINES * LINE_LENGTH]) -> 
             over: t.over,
             lines,
         },
-        answer: Taken::Done,
+        answer: Outcome::Done,
     }
 }
 

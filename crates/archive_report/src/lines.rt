@@ -6,9 +6,9 @@ ghost use mathlib.Core.Bool.{true, cond, _&&_};
 ghost use lib.Dec.{ltb, leb, eqb};
 ghost use Prim.Native.Nat.{_+_, _-_, _*_, _^_, _≤_, _<_, min, max};
 ghost use lib.ListN.{length};
-ghost use Rattle.archive_report_model.specs.Report.{maxLines, joined, rowsOfLine, isRising, isTally};
+ghost use Rattle.archive_report_model.specs.Report.{maxLines, mergedLine, rowsOfLine, isRising, isTally};
 ghost use Rattle.archive_report.specs.Lines.{lineLength, linesLength, lineAt, linesFrom, linesAt};
-ghost use Rattle.archive_report.specs.Private.{rowLine, totalOf, isLineOf, isBefore, lineFits, Ordered, Place, Gap, Stored, Inserted};
+ghost use Rattle.archive_report.specs.Private.{lineFor, totalOf, isLineOf, isBefore, lineFits, Ordered, Place, Gap, Stored, Inserted};
 
 // `end` if the first `end` lines exist and are below this identity, else `low`.
 fn step(lines: &[u64], count: usize, identity: u64, low: usize, end: usize) -> usize
@@ -137,7 +137,7 @@ fn greatest(a: u64, b: u64) -> u64
 fn join_row(lines: &mut [u64], i: usize, time: u64, loose: bool)
     requires { ⌜ (i < maxLines) × (length (now lines) ≡ linesLength) × (rowsOfLine (lineAt (now lines) i) < 2 ^ 63) ⌝ }
     ensures { λ _. ⌜ Stored i
-        (joined (rowLine (lineAt (now (lines .entry)) i .identity) time loose) (lineAt (now (lines .entry)) i))
+        (mergedLine (lineFor (lineAt (now (lines .entry)) i .identity) time loose) (lineAt (now (lines .entry)) i))
         (now (lines .entry)) (now (lines .exit)) ⌝ }
 {
     let at = LINE_LENGTH * i;
@@ -159,7 +159,7 @@ pub(crate) fn add_row(
 ) -> usize
     requires { ⌜ (count ≤ maxLines) × (length (now lines) ≡ linesLength) × (isRising (linesAt (now lines) count) ≡ true)
         × (totalOf (linesAt (now lines) count) < 2 ^ 63) ⌝ }
-    ensures { λ r. ⌜ Inserted count (rowLine identity time loose) (now (lines .entry)) (now (lines .exit)) r ⌝ }
+    ensures { λ r. ⌜ Inserted count (lineFor identity time loose) (now (lines .entry)) (now (lines .exit)) r ⌝ }
 {
     let i = find(lines, count, identity);
     if is_at(lines, count, i, identity) {

@@ -15,7 +15,7 @@ ghost use Rattle.block_layout.specs.Block.{cellsPerBlock, blockLength};
 ghost use Rattle.archive_model.specs.Row.{isRow, rowIn};
 ghost use Rattle.archive_model.specs.Identity.{identityOf};
 ghost use Rattle.archive_model.specs.Buffer.{blocksIn, maxBlocks};
-ghost use Rattle.archive_report_model.specs.Report.{maxLines, isRising, looseIn, lineOf};
+ghost use Rattle.archive_report_model.specs.Report.{maxLines, isRising, looseIn, lineOfRow};
 ghost use Rattle.archive_report_model.specs.Pieces.{addBlock, addBlocks};
 ghost use Rattle.archive_report.specs.Lines.{linesLength, linesAt};
 ghost use Rattle.archive_report.specs.Private.{rowsBetween, totalOf, Inserted, AddedRows, tallyOf, Grows, Sane};
@@ -42,7 +42,8 @@ fn add_cell(lines: &mut [u64], count: usize, cell: &[u8]) -> usize
     requires { ⌜ (length (now cell) ≡ cellLength) × (isRow (rowIn (now cell)) ≡ true) × (count ≤ maxLines)
         × (length (now lines) ≡ linesLength) × (isRising (linesAt (now lines) count) ≡ true)
         × (totalOf (linesAt (now lines) count) < 2 ^ 63) ⌝ }
-    ensures { λ r. ⌜ Inserted count (lineOf (rowIn (now (cell .entry)))) (now (lines .entry)) (now (lines .exit)) r ⌝ }
+    ensures { λ r.
+        ⌜ Inserted count (lineOfRow (rowIn (now (cell .entry)))) (now (lines .entry)) (now (lines .exit)) r ⌝ }
 {
     lines::add_row(
         lines,

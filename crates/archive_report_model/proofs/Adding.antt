@@ -25,9 +25,10 @@ use Rattle.archive_model.specs.Buffer.{maxBlocks, isWhole, blocksIn, Scan, scan
 use Rattle.archive_model.specs.Append.{isScan}
 use Rattle.archive_model.proofs.Pieces.{blocks-count, pieces-blocks, rows-count}
 use Rattle.archive_model.proofs.Scans.{rows-after, blocks-after, scanned-next}
-use Rattle.archive_report_model.specs.Report.{Line, Report, maxLines, lineOf, addRows, keptIn, looseIn, isLine, isRising, sumBy, isTally, isReport, addOf}
-use Rattle.archive_report_model.specs.Pieces.{Tally, startTally, countedRows, counted, addBlock, addBlocks, closing, Adding, adding, startAdding, rowsSoFar, isAdding, isPiece, fed, feedOf, endedOf}
-use Rattle.archive_report_model.specs.Claims.{areBytes, feedAll, fedPieces, PiecesAreWhole}
+use Rattle.archive_report_model.specs.Report.{Line, Report, maxLines, lineOfRow, addRows, keptIn, looseIn, isLine, isRising, sumBy, isTally, isReport, addOf}
+use Rattle.archive_report_model.specs.Pieces.{Tally, startTally, countedRows, tallyAfter, addBlock, addBlocks, closing, Adding, adding, startAdding, rowsSoFar, isAdding, isPiece, pieceAnswer, addPieceOf, endedOf}
+use Rattle.base_numbers.specs.Bytes.{areBytes}
+use Rattle.archive_report_model.specs.Claims.{addPieces, fedPieces, PiecesAreWhole}
 use Rattle.archive_report_model.proofs.Lines.{all-added, rising-added, kept-added, loose-added, kinds}
 use Rattle.archive_report_model.proofs.Additions.{facts, report-tally, line-joined}
 use Rattle.archive_report_model.proofs.Bytes.{blocks-bytes, cell-lines}
@@ -49,9 +50,9 @@ module _ (block : List ℕ) where
       by-test {X = length (countedRows block) ≡ cond (isSound block) (rowCount block) 0}
       (isSound block) (λ t. rw t (rows-count block)) (λ f. rw f)
 
-  counted-lines : areBytes block ≡ true → all (λ r. isLine (lineOf r)) (countedRows block) ≡ true
+  counted-lines : areBytes block ≡ true → all (λ r. isLine (lineOfRow r)) (countedRows block) ≡ true
   counted-lines t =
-      by-test {X = all (λ (r : Row). isLine (lineOf r)) (countedRows block) ≡ true}
+      by-test {X = all (λ (r : Row). isLine (lineOfRow r)) (countedRows block) ≡ true}
       (isSound block) (λ s. rw s (cell-lines block t)) (λ f. rw f)
 
 pub tally-facts : (lines : List Line) (kept loose : ℕ) → isTally lines kept loose ≡ true
@@ -63,7 +64,7 @@ tally-facts lines kept loose t =
     (b .0, eqb-true kept (sumBy (λ l. l .kept) lines) (c .0), eqb-true loose (sumBy (λ l. l .loose) lines) (c .1))
 
 tally-added : (lines : List Line) (kept loose : ℕ) (rows : List Row)
-    → all (λ r. isLine (lineOf r)) rows ≡ true → isTally lines kept loose ≡ true
+    → all (λ r. isLine (lineOfRow r)) rows ≡ true → isTally lines kept loose ≡ true
     → isTally (addRows rows lines) (kept + keptIn rows) (loose + looseIn rows) ≡ true
 unfolding isTally
 tally-added lines kept loose rows h t =
@@ -126,7 +127,7 @@ adding-next s t block h m bytes =
     let scanned = scanned-next block (t .scan) (g .scanned) m in
     let grown : next .rows ≡ t .scan .rows + length rows =
     rows-after block (t .scan) ∙ omega (arith, counted-length block) in
-    by-test {X = isAdding (adding s (counted t rows next)) ≡ true}
+    by-test {X = isAdding (adding s (tallyAfter t rows next)) ≡ true}
     (t .over || ltb maxLines (length (addRows rows (t .lines))))
     (λ o. rw o (is-going (adding s (record { lines = []; kept = 0; loose = 0; over = true; scan = next }))
     (record { report = g .report; scanned = scanned; few = omega arith; rows = refl; sums = no-tally })))
@@ -154,7 +155,7 @@ adding-next s t block h m bytes =
 pub blocks-one : (t : Tally) (block : List ℕ) → addBlock t block .scan .blocks ≡ t .scan .blocks + 1
 unfolding addBlock
 blocks-one t block =
-    by-test {X = counted t (countedRows block) (scanBlock (t .scan) block) .scan .blocks ≡ t .scan .blocks + 1}
+    by-test {X = tallyAfter t (countedRows block) (scanBlock (t .scan) block) .scan .blocks ≡ t .scan .blocks + 1}
     (t .over || ltb maxLines (length (addRows (countedRows block) (t .lines))))
     (λ h. rw h (blocks-after block (t .scan)))
     (λ h. rw h (blocks-after block (t .scan)))
@@ -192,12 +193,13 @@ record Reached (s : Report) (done : List ℕ) (a : Adding) : Type 0 where
   blocks : blockLength * a .tally .scan .blocks ≡ length done
 
 -- a piece that is taken, and one that is not
-fed-one : (a b : Adding) (p : List ℕ) (ps : List (List ℕ)) → feedOf a p ≡ fed 0 b
-    → (feedAll a (p ∷ ps) ≡ feedAll b ps) × (fedPieces a (p ∷ ps) ≡ p ∷ fedPieces b ps)
+fed-one : (a b : Adding) (p : List ℕ) (ps : List (List ℕ)) → addPieceOf a p ≡ pieceAnswer 0 b
+    → (addPieces a (p ∷ ps) ≡ addPieces b ps) × (fedPieces a (p ∷ ps) ≡ p ∷ fedPieces b ps)
 fed-one a b p ps e = (rw e, rw e)
 
-fed-none : (a : Adding) (why : Refusal) (p : List ℕ) (ps : List (List ℕ)) → feedOf a p ≡ fed (numberOf why) a
-    → (feedAll a (p ∷ ps) ≡ feedAll a ps) × (fedPieces a (p ∷ ps) ≡ fedPieces a ps)
+fed-none : (a : Adding) (why : Refusal) (p : List ℕ) (ps : List (List ℕ))
+    → addPieceOf a p ≡ pieceAnswer (numberOf why) a
+    → (addPieces a (p ∷ ps) ≡ addPieces a ps) × (fedPieces a (p ∷ ps) ≡ fedPieces a ps)
 fed-none a why p ps e = (rw e, rw (e, ne-eqb (numberOf why) 0 (refused-number why)))
 
 module _ (s : Report) (yes : isReport s ≡ true) where
@@ -235,23 +237,23 @@ module _ (s : Report) (yes : isReport s ≡ true) where
             blocks = omega (arith, more .1, blocks-count p);
           }
 
-      fed-next : isPiece (a .tally .scan) p ≡ true → feedOf a p ≡ fed 0 after
-      unfolding feedOf
+      fed-next : isPiece (a .tally .scan) p ≡ true → addPieceOf a p ≡ pieceAnswer 0 after
+      unfolding addPieceOf
       fed-next h = rw (r .goes, h)
 
-      fed-not : isPiece (a .tally .scan) p ≡ false → feedOf a p ≡ fed (numberOf Size) a
-      unfolding feedOf
+      fed-not : isPiece (a .tally .scan) p ≡ false → addPieceOf a p ≡ pieceAnswer (numberOf Size) a
+      unfolding addPieceOf
       fed-not h = rw (r .goes, h)
 
   pieces-from : (pieces : List (List ℕ)) (done : List ℕ) (a : Adding) → Reached s done a → all areBytes pieces ≡ true
-      → (isAdding (feedAll a pieces) ≡ true)
-      × (endedOf (feedAll a pieces) ≡ addOf s (done ++ flatten (fedPieces a pieces)))
+      → (isAdding (addPieces a pieces) ≡ true)
+      × (endedOf (addPieces a pieces) ≡ addOf s (done ++ flatten (fedPieces a pieces)))
   unfolding flatten
   pieces-from [] done a r bytes = (r .goes, reached-end done a r ∙ ap (addOf s) (sym (append-nil done)))
   pieces-from (p ∷ ps) done a r bytes =
       let w = both (areBytes p) (all areBytes ps) bytes in
-      by-test {X = (isAdding (feedAll a (p ∷ ps)) ≡ true)
-      × (endedOf (feedAll a (p ∷ ps)) ≡ addOf s (done ++ flatten (fedPieces a (p ∷ ps))))}
+      by-test {X = (isAdding (addPieces a (p ∷ ps)) ≡ true)
+      × (endedOf (addPieces a (p ∷ ps)) ≡ addOf s (done ++ flatten (fedPieces a (p ∷ ps))))}
       (isPiece (a .tally .scan) p)
       (λ t.
       let b = adding (a .report) (addBlocks (a .tally) (blocksIn p)) in
@@ -270,8 +272,9 @@ module _ (s : Report) (yes : isReport s ≡ true) where
 
 -- ---- a report that no archives give
 
-stuck : (pieces : List (List ℕ)) (a : Adding) → isAdding a ≡ false → (feedAll a pieces ≡ a) × (fedPieces a pieces ≡ [])
-unfolding feedOf
+stuck : (pieces : List (List ℕ)) (a : Adding) → isAdding a ≡ false
+    → (addPieces a pieces ≡ a) × (fedPieces a pieces ≡ [])
+unfolding addPieceOf
 stuck [] a f = (refl, refl)
 stuck (p ∷ ps) a f =
     let none = fed-none a NotAccepted p ps (rw f) in
@@ -288,8 +291,8 @@ end-not s buffer f = rw (start-not s f, f)
 
 pub pieces-are-whole : PiecesAreWhole
 pieces-are-whole s pieces bytes =
-    by-test {X = (isAdding (feedAll (startAdding s) pieces) ≡ isReport s)
-    × (endedOf (feedAll (startAdding s) pieces) ≡ addOf s (flatten (fedPieces (startAdding s) pieces)))}
+    by-test {X = (isAdding (addPieces (startAdding s) pieces) ≡ isReport s)
+    × (endedOf (addPieces (startAdding s) pieces) ≡ addOf s (flatten (fedPieces (startAdding s) pieces)))}
     (isReport s)
     (λ t.
     let r = pieces-from s t pieces [] (startAdding s) (reached-first s t) bytes in

@@ -18,7 +18,7 @@ use Rattle.base_lists.proofs.Tests.{and-true, by-test}
 use Rattle.archive_model.specs.Row.{Row}
 use Rattle.archive_model.specs.Buffer.{maxRows, rowsIn}
 use Rattle.archive_model.specs.Append.{verdict}
-use Rattle.archive_report_model.specs.Report.{Line, Report, maxArchives, maxLines, lineOf, joined, addRows, keptIn, looseIn, isLine, isRising, sumBy, isTally, isReport, answer, added, addOf}
+use Rattle.archive_report_model.specs.Report.{Line, Report, maxArchives, maxLines, lineOfRow, mergedLine, addRows, keptIn, looseIn, isLine, isRising, sumBy, isTally, isReport, addition, added, addOf}
 use Rattle.archive_report_model.proofs.Lines.{all-added, rising-added, kept-added, loose-added, kinds}
 
 -- ---- a report
@@ -71,9 +71,9 @@ passed s p =
 
 -- ---- a line of one row, and two lines joined
 
-pub isLineOf : (r : Row) → lineOf r .identity < 2 ^ 32 → r .time < 2 ^ 64 → isLine (lineOf r) ≡ true
+pub isLineOf : (r : Row) → lineOfRow r .identity < 2 ^ 32 → r .time < 2 ^ 64 → isLine (lineOfRow r) ≡ true
 isLineOf r i t =
-    and-true (lt-ltb (lineOf r .identity) (2 ^ 32) i)
+    and-true (lt-ltb (lineOfRow r .identity) (2 ^ 32) i)
     (and-true (one (r .loose))
     (and-true (le-leb (r .time) (r .time) (omega arith))
     (and-true (lt-ltb (r .time) (2 ^ 64) t) (single (r .loose)))))
@@ -107,11 +107,11 @@ line-facts a h =
       one = e .1;
     }
 
-pub line-joined : (a b : Line) → isLine a ≡ true → isLine b ≡ true → isLine (joined a b) ≡ true
+pub line-joined : (a b : Line) → isLine a ≡ true → isLine b ≡ true → isLine (mergedLine a b) ≡ true
 line-joined a b h k =
     let f = line-facts a h in
     let g = line-facts b k in
-    let c = joined a b in
+    let c = mergedLine a b in
     let two : 1 < c .kept + c .loose = omega (arith, f .some, g .some) in
     and-true (lt-ltb (c .identity) (2 ^ 32) (f .identity))
     (and-true (le-leb 1 (c .kept + c .loose) (omega arith))
@@ -135,7 +135,7 @@ pub record Taken (s : Report) (buffer : List ℕ) : Type 0 where
   pub few : length (addRows (rowsIn buffer) (s .lines)) ≤ maxLines
 
 module _ (s : Report) (buffer : List ℕ) where
-  pub taken-next : Taken s buffer → addOf s buffer ≡ answer 0 0 (added s (rowsIn buffer))
+  pub taken-next : Taken s buffer → addOf s buffer ≡ addition 0 0 (added s (rowsIn buffer))
   unfolding addOf
   taken-next t =
       rw (
@@ -186,7 +186,7 @@ module _ (s : Report) (buffer : List ℕ) where
 
 -- an archive whose rows can be told apart by 32 bits, and times of 64
 pub record Known (buffer : List ℕ) : Type 0 where
-  pub lines : all (λ r. isLine (lineOf r)) (rowsIn buffer) ≡ true
+  pub lines : all (λ r. isLine (lineOfRow r)) (rowsIn buffer) ≡ true
   pub few : length (rowsIn buffer) ≤ maxRows
 
 pub added-report : (s : Report) (buffer : List ℕ) → Taken s buffer

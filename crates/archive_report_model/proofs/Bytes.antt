@@ -27,8 +27,8 @@ use Rattle.archive_model.specs.Claims.{isFit}
 use Rattle.archive_model.proofs.Claims.{exact}
 use Rattle.archive_model.proofs.Exact.{exact-few}
 use Rattle.archive_model.proofs.Cursor.{verdict-facts, blocks-of}
-use Rattle.archive_report_model.specs.Report.{isLine, lineOf}
-use Rattle.archive_report_model.specs.Claims.{areBytes}
+use Rattle.archive_report_model.specs.Report.{isLine, lineOfRow}
+use Rattle.base_numbers.specs.Bytes.{areBytes}
 use Rattle.archive_report_model.proofs.Additions.{isLineOf, Known}
 
 module _ {A : Type 0} (p : A → Bool) where
@@ -131,13 +131,13 @@ narrow-rows buffer t =
     all-flat isNarrow areBytes rowsOf narrow-block (map at (upFrom 0 n))
     (all-each areBytes at (λ k. all-part isByte (blockLength * k) blockLength buffer t) 0 n)
 
-line-of : (r : Row) → isFit r ≡ true → isNarrow r ≡ true → isLine (lineOf r) ≡ true
+line-of : (r : Row) → isFit r ≡ true → isNarrow r ≡ true → isLine (lineOfRow r) ≡ true
 line-of r f n = isLineOf r (ltb-true (identityOf r) (2 ^ 32) n) (ltb-true (r .time) (2 ^ 64) (both (isRow r) _ f .1))
 
 pub known : (buffer : List ℕ) → verdict buffer .number ≡ 0 → areBytes buffer ≡ true → Known buffer
 known buffer v t = record {
   lines =
-      all-both isFit isNarrow (λ r. isLine (lineOf r)) line-of
+      all-both isFit isNarrow (λ r. isLine (lineOfRow r)) line-of
       (rowsIn buffer) (exact buffer v .1) (narrow-rows buffer t);
   few =
       omega (
@@ -155,14 +155,14 @@ blocks-bytes buffer t =
     all-each areBytes (λ k. part (blockLength * k) blockLength buffer)
     (λ k. all-part isByte (blockLength * k) blockLength buffer t) 0 (length buffer / blockLength)
 
-line-cell : (cell : List ℕ) → areBytes cell ≡ true → isLine (lineOf (rowIn cell)) ≡ true
+line-cell : (cell : List ℕ) → areBytes cell ≡ true → isLine (lineOfRow (rowIn cell)) ≡ true
 line-cell cell t =
     isLineOf (rowIn cell) (narrow-bytes (rowIn cell) (shown-bytes cell t))
     (unbe-bytes 8 (part 0 8 cell) (omega (arith, length-take 8 cell)) (all-part isByte 0 8 cell t))
 
-pub cell-lines : (block : List ℕ) → areBytes block ≡ true → all (λ r. isLine (lineOf r)) (rowsOf block) ≡ true
+pub cell-lines : (block : List ℕ) → areBytes block ≡ true → all (λ r. isLine (lineOfRow r)) (rowsOf block) ≡ true
 unfolding rowsOf
 cell-lines block t =
-    all-each (λ (r : Row). isLine (lineOf r)) (λ i. rowIn (blockCell i block))
+    all-each (λ (r : Row). isLine (lineOfRow r)) (λ i. rowIn (blockCell i block))
     (λ i. line-cell (blockCell i block) (all-part isByte (headerLength + cellLength * i) cellLength block t)) 0
     (rowCount block)

@@ -16,7 +16,8 @@ use Rattle.base_lists.proofs.Tests.{and-true, by-test}
 use Rattle.archive_model.specs.Row.{Row}
 use Rattle.archive_model.specs.Buffer.{rowsIn}
 use Rattle.archive_report_model.specs.Report.{Line, Report, emptyReport, addRows, keptIn, looseIn, isRising, isTally, isReport, Addition, added, addOf, shareOf}
-use Rattle.archive_report_model.specs.Claims.{addAll, accepted, noneRefused, rowsOfAll, areBytes, TotalsAreSums, AnyOrder, Sound, RoundedDown, ShareRoundedDown}
+use Rattle.base_numbers.specs.Bytes.{areBytes}
+use Rattle.archive_report_model.specs.Claims.{addAll, archivesAccepted, noneRefused, rowsOfAll, TotalsAreSums, AnyOrder, Sound, RoundedDown, ShareRoundedDown}
 use Rattle.archive_report_model.proofs.Order.{add-comm-rows, add-append, add-none}
 use Rattle.archive_report_model.proofs.Lines.{rising-added, more-added, count-append}
 use Rattle.archive_report_model.proofs.Additions.{Taken, taken-next, is-taken, refused-kept, added-report}
@@ -224,25 +225,25 @@ after-more s b bs t a =
       loose = omega (arith, a .loose, split (λ r. r .loose));
     }
 
-after-all : (s : Report) (buffers : List (List ℕ)) → After s (accepted s buffers) (addAll s buffers)
+after-all : (s : Report) (buffers : List (List ℕ)) → After s (archivesAccepted s buffers) (addAll s buffers)
 after-all s [] = after-none s
 after-all s (b ∷ bs) =
-    by-test {X = After s (accepted s (b ∷ bs)) (addAll s (b ∷ bs))} (eqb (addOf s b .number) 0)
+    by-test {X = After s (archivesAccepted s (b ∷ bs)) (addAll s (b ∷ bs))} (eqb (addOf s b .number) 0)
     (λ t.
     let e = next-is s b (is-taken s b (eqb-true (addOf s b .number) 0 t)) in
-    rw t (after-more s b (accepted (addOf s b .next) bs) (addAll s (b ∷ bs))
-    (subst (λ (r : Report). After r (accepted (addOf s b .next) bs) (addAll s (b ∷ bs))) e
+    rw t (after-more s b (archivesAccepted (addOf s b .next) bs) (addAll s (b ∷ bs))
+    (subst (λ (r : Report). After r (archivesAccepted (addOf s b .next) bs) (addAll s (b ∷ bs))) e
     (after-all (addOf s b .next) bs))))
     (λ f.
     let e = refused-kept s b (eqb-false (addOf s b .number) 0 f) in
     rw f
-    (subst (λ (r : Report). After r (accepted (addOf s b .next) bs) (addAll s (b ∷ bs))) e
+    (subst (λ (r : Report). After r (archivesAccepted (addOf s b .next) bs) (addAll s (b ∷ bs))) e
     (after-all (addOf s b .next) bs)))
 
 pub totals-are-sums : TotalsAreSums
 totals-are-sums buffers =
     let a = after-all emptyReport buffers in
-    let rows = rowsOfAll (accepted emptyReport buffers) in
+    let rows = rowsOfAll (archivesAccepted emptyReport buffers) in
     record {
       archives = omega (arith, a .archives);
       kept = omega (arith, a .kept);

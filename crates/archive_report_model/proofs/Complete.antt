@@ -16,8 +16,9 @@ use Rattle.archive_model.specs.Append.{verdict}
 use Rattle.archive_model.specs.Claims.{isFit}
 use Rattle.archive_model.proofs.Claims.{read-back}
 use Rattle.archive_model.proofs.Buffers.{pieces}
-use Rattle.archive_report_model.specs.Report.{Line, Report, emptyReport, maxArchives, maxLines, lineOf, addRows, keptIn, looseIn, isLine, sumBy, isTally, isReport, added}
-use Rattle.archive_report_model.specs.Claims.{areBytes, addAll, noneRefused, rowsOfAll, Complete}
+use Rattle.archive_report_model.specs.Report.{Line, Report, emptyReport, maxArchives, maxLines, lineOfRow, addRows, keptIn, looseIn, isLine, sumBy, isTally, isReport, added}
+use Rattle.base_numbers.specs.Bytes.{areBytes}
+use Rattle.archive_report_model.specs.Claims.{addAll, noneRefused, rowsOfAll, Complete}
 use Rattle.archive_report_model.proofs.Order.{add-append}
 use Rattle.archive_report_model.proofs.Lines.{more-added, kept-added, loose-added, kinds}
 use Rattle.archive_report_model.proofs.Additions.{Passed, facts, Taken, Known, added-report}
@@ -130,7 +131,7 @@ module _ (s : Report) (h : isReport s ≡ true) where
       (all-part isFit (maxRows * j) maxRows rows (all-fit (s .lines) (p .each)))
 
   abbrev givesLine : Row → Bool
-  givesLine r = isLine (lineOf r)
+  givesLine r = isLine (lineOfRow r)
 
   fine : (j : ℕ) → Fine (archive j)
   fine j = record {

@@ -23,7 +23,7 @@ use Rattle.archive_model.proofs.Blocks.{Fit, Fits, noRow, rows-block-length, nu
 use Rattle.archive_model.proofs.Buffers.{not-blank}
 use Rattle.archive_model.proofs.Pieces.{scan-append}
 use Rattle.archive_model.proofs.Scans.{scan-facts, soundRows}
-use Rattle.archive_report_model.specs.Claims.{areBytes}
+use Rattle.base_numbers.specs.Bytes.{areBytes}
 use Rattle.archive_report_model.proofs.Bytes.{all-repeated}
 use Rattle.archive_report_model.proofs.Written.{isPlain, block-bytes}
 

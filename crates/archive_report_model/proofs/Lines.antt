@@ -16,13 +16,13 @@ use Rattle.base_lists.proofs.Choice.{both}
 use Rattle.base_lists.proofs.Tests.{and-true}
 use Rattle.base_lists.proofs.Members.{all-of, all-at}
 use Rattle.archive_model.specs.Row.{Row}
-use Rattle.archive_report_model.specs.Report.{Line, lineOf, joined, insert, addRows, isRising, sumBy, keptIn, looseIn}
+use Rattle.archive_report_model.specs.Report.{Line, lineOfRow, mergedLine, insert, addRows, isRising, sumBy, keptIn, looseIn}
 use Rattle.archive_report_model.proofs.Order.{insert-cases, insert-nil, add-first, add-none}
 
 -- ---- one line more
 
 pub all-insert : (p : Line → Bool) (a : Line) (l : List Line) → p a ≡ true
-    → ((b : Line) → p b ≡ true → p (joined a b) ≡ true) → all p l ≡ true → all p (insert a l) ≡ true
+    → ((b : Line) → p b ≡ true → p (mergedLine a b) ≡ true) → all p l ≡ true → all p (insert a l) ≡ true
 all-insert p a [] h j t = ap (all p) (insert-nil a) ∙ and-true h refl
 all-insert p a (c ∷ l) h j t =
     let w = both (p c) (all p l) t in
@@ -59,7 +59,7 @@ rising-insert a (c ∷ l) t =
     (λ b h. lt-ltb (c .identity) (a .identity) k) (w .0))
     (rising-insert a l (w .1)))
 
-pub sum-insert : (f : Line → ℕ) → ((a b : Line) → f (joined a b) ≡ f a + f b)
+pub sum-insert : (f : Line → ℕ) → ((a b : Line) → f (mergedLine a b) ≡ f a + f b)
     → (a : Line) (l : List Line) → sumBy f (insert a l) ≡ f a + sumBy f l
 sum-insert f j a [] = ap (sumBy f) (insert-nil a)
 sum-insert f j a (c ∷ l) =
@@ -79,40 +79,40 @@ more-insert a (c ∷ l) =
 -- ---- rows more
 
 module _ (lines : List Line) where
-  pub all-added : (p : Line → Bool) (rows : List Row) → all (λ r. p (lineOf r)) rows ≡ true
-      → ((a b : Line) → p a ≡ true → p b ≡ true → p (joined a b) ≡ true)
+  pub all-added : (p : Line → Bool) (rows : List Row) → all (λ r. p (lineOfRow r)) rows ≡ true
+      → ((a b : Line) → p a ≡ true → p b ≡ true → p (mergedLine a b) ≡ true)
       → all p lines ≡ true → all p (addRows rows lines) ≡ true
   all-added p [] h j t = ap (all p) (add-none lines) ∙ t
   all-added p (r ∷ rows) h j t =
-      let w = both (p (lineOf r)) (all (λ s. p (lineOf s)) rows) h in
+      let w = both (p (lineOfRow r)) (all (λ s. p (lineOfRow s)) rows) h in
       ap (all p) (add-first r rows lines)
-      ∙ all-insert p (lineOf r) (addRows rows lines) (w .0)
-      (λ b k. j (lineOf r) b (w .0) k) (all-added p rows (w .1) j t)
+      ∙ all-insert p (lineOfRow r) (addRows rows lines) (w .0)
+      (λ b k. j (lineOfRow r) b (w .0) k) (all-added p rows (w .1) j t)
 
   pub rising-added : (rows : List Row) → isRising lines ≡ true → isRising (addRows rows lines) ≡ true
   rising-added [] t = ap isRising (add-none lines) ∙ t
   rising-added (r ∷ rows) t =
-      ap isRising (add-first r rows lines) ∙ rising-insert (lineOf r) (addRows rows lines) (rising-added rows t)
+      ap isRising (add-first r rows lines) ∙ rising-insert (lineOfRow r) (addRows rows lines) (rising-added rows t)
 
-  pub sum-added : (f : Line → ℕ) (p : Row → Bool) → ((a b : Line) → f (joined a b) ≡ f a + f b)
-      → ((r : Row) → f (lineOf r) ≡ cond (p r) 1 0)
+  pub sum-added : (f : Line → ℕ) (p : Row → Bool) → ((a b : Line) → f (mergedLine a b) ≡ f a + f b)
+      → ((r : Row) → f (lineOfRow r) ≡ cond (p r) 1 0)
       → (rows : List Row) → sumBy f (addRows rows lines) ≡ sumBy f lines + count p rows
   sum-added f p j o [] = ap (sumBy f) (add-none lines) ∙ (omega arith)
   sum-added f p j o (r ∷ rows) =
-      ap (sumBy f) (add-first r rows lines) ∙ sum-insert f j (lineOf r) (addRows rows lines)
+      ap (sumBy f) (add-first r rows lines) ∙ sum-insert f j (lineOfRow r) (addRows rows lines)
       ∙ go (p r) (o r) (sum-added f p j o rows)
     where
-      go : (b : Bool) → f (lineOf r) ≡ cond b 1 0 → sumBy f (addRows rows lines) ≡ sumBy f lines + count p rows
-          → f (lineOf r) + sumBy f (addRows rows lines) ≡ sumBy f lines + cond b (count p rows + 1) (count p rows)
+      go : (b : Bool) → f (lineOfRow r) ≡ cond b 1 0 → sumBy f (addRows rows lines) ≡ sumBy f lines + count p rows
+          → f (lineOfRow r) + sumBy f (addRows rows lines) ≡ sumBy f lines + cond b (count p rows + 1) (count p rows)
       go true e k = omega arith
       go false e k = omega arith
 
   pub more-added : (rows : List Row) → length lines ≤ length (addRows rows lines)
   more-added [] = omega (arith, ap length (add-none lines))
   more-added (r ∷ rows) =
-      omega (arith, ap length (add-first r rows lines), more-insert (lineOf r) (addRows rows lines), more-added rows)
+      omega (arith, ap length (add-first r rows lines), more-insert (lineOfRow r) (addRows rows lines), more-added rows)
 
-kept-one : (r : Row) → lineOf r .kept ≡ cond (not (r .loose)) 1 0
+kept-one : (r : Row) → lineOfRow r .kept ≡ cond (not (r .loose)) 1 0
 kept-one r = go (r .loose)
   where
     go : (b : Bool) → _≡_ {A = ℕ} (cond b 0 1) (cond (not b) 1 0)

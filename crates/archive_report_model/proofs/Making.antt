@@ -15,7 +15,7 @@ use borrow.Author.Tests.{lt-ltb, ltb-true, eq-eqb, eqb-true}
 use Rattle.base_lists.specs.Lists.{all}
 use Rattle.base_lists.proofs.Choice.{both}
 use Rattle.base_lists.proofs.Tests.{and-true}
-use Rattle.radio_erp1.specs.Subtelegram.{lastOf, bodyOf, hashOf, sealedOf, checkOf, isValid}
+use Rattle.radio_erp1.specs.Subtelegram.{lastByte, bodyOf, hashOf, sealedOf, checkOf, isValid}
 use Rattle.radio_erp1.proofs.Checks.{check-plain}
 use Rattle.base_buffers.specs.Buffer.{part}
 use Rattle.block_layout.specs.BigEndian.{be, unbe}
@@ -23,8 +23,8 @@ use Rattle.block_layout.proofs.BigEndian.{be-length, unbe-be}
 use Rattle.archive_model.specs.Row.{Row, isRow}
 use Rattle.archive_model.specs.Identity.{identityOf}
 use Rattle.archive_model.specs.Claims.{isFit}
-use Rattle.archive_report_model.specs.Claims.{areBytes}
-use Rattle.archive_report_model.specs.Report.{Line, lineOf, joined, insert, addRows, isLine, isRising}
+use Rattle.base_numbers.specs.Bytes.{areBytes}
+use Rattle.archive_report_model.specs.Report.{Line, lineOfRow, mergedLine, insert, addRows, isLine, isRising}
 use Rattle.archive_report_model.proofs.Order.{insert-cases, insert-before, insert-same, insert-after, insert-nil, add-comm-rows, add-append, add-none}
 use Rattle.archive_report_model.proofs.Additions.{line-facts, isLineOf}
 use Rattle.archive_report_model.proofs.Bytes.{all-append, all-repeated, all-flat}
@@ -45,7 +45,7 @@ bytes-length : (i : ℕ) → length (bytesFor i) ≡ 8
 unfolding bytesFor
 bytes-length i = omega (arith, length-append (bodyFor i) (hashOf (bodyFor i) ∷ []), body-length i)
 
-bytes-hashed : (i : ℕ) → lastOf (bytesFor i) ≡ hashOf (bodyOf (bytesFor i))
+bytes-hashed : (i : ℕ) → lastByte (bytesFor i) ≡ hashOf (bodyOf (bytesFor i))
 unfolding bytesFor
 bytes-hashed i =
     let e : length (sealedOf (bodyFor i)) - 1 ≡ 7 =
@@ -92,36 +92,38 @@ made-fit i time loose h = and-true (bytes-valid i) (lt-ltb time (2 ^ 64) h)
 
 -- ---- two lines of one transmitter
 
-joined-assoc : (a b c : Line) → joined a (joined b c) ≡ joined (joined a b) c
+joined-assoc : (a b c : Line) → mergedLine a (mergedLine b c) ≡ mergedLine (mergedLine a b) c
 joined-assoc a b c =
-    let k : joined a (joined b c) .kept ≡ joined (joined a b) c .kept = omega arith in
-    let l : joined a (joined b c) .loose ≡ joined (joined a b) c .loose = omega arith in
-    let s : joined a (joined b c) .earliest ≡ joined (joined a b) c .earliest = omega arith in
-    let t : joined a (joined b c) .latest ≡ joined (joined a b) c .latest = omega arith in
+    let k : mergedLine a (mergedLine b c) .kept ≡ mergedLine (mergedLine a b) c .kept = omega arith in
+    let l : mergedLine a (mergedLine b c) .loose ≡ mergedLine (mergedLine a b) c .loose = omega arith in
+    let s : mergedLine a (mergedLine b c) .earliest ≡ mergedLine (mergedLine a b) c .earliest = omega arith in
+    let t : mergedLine a (mergedLine b c) .latest ≡ mergedLine (mergedLine a b) c .latest = omega arith in
     λ i. record { identity = a .identity; kept = k i; loose = l i; earliest = s i; latest = t i }
 
-insert-twice : (a b : Line) (l : List Line) → a .identity ≡ b .identity → insert a (insert b l) ≡ insert (joined a b) l
-insert-twice a b [] e = ap (insert a) (insert-nil b) ∙ insert-same a b [] e ∙ sym (insert-nil (joined a b))
+insert-twice : (a b : Line) (l : List Line) → a .identity ≡ b .identity
+    → insert a (insert b l) ≡ insert (mergedLine a b) l
+insert-twice a b [] e = ap (insert a) (insert-nil b) ∙ insert-same a b [] e ∙ sym (insert-nil (mergedLine a b))
 insert-twice a b (c ∷ l) e =
-    insert-cases (λ (m : List Line). insert a m ≡ insert (joined a b) (c ∷ l)) b c l
-    (λ k. insert-same a b (c ∷ l) e ∙ sym (insert-before (joined a b) c l (omega arith)))
-    (λ k. insert-same a (joined b c) l e ∙ ap (λ (x : Line). x ∷ l) (joined-assoc a b c)
-    ∙ sym (insert-same (joined a b) c l (e ∙ k)))
+    insert-cases (λ (m : List Line). insert a m ≡ insert (mergedLine a b) (c ∷ l)) b c l
+    (λ k. insert-same a b (c ∷ l) e ∙ sym (insert-before (mergedLine a b) c l (omega arith)))
+    (λ k. insert-same a (mergedLine b c) l e ∙ ap (λ (x : Line). x ∷ l) (joined-assoc a b c)
+    ∙ sym (insert-same (mergedLine a b) c l (e ∙ k)))
     (λ k. insert-after a c (insert b l) (omega arith) ∙ ap (λ (m : List Line). c ∷ m) (insert-twice a b l e)
-    ∙ sym (insert-after (joined a b) c l (omega arith)))
+    ∙ sym (insert-after (mergedLine a b) c l (omega arith)))
 
 -- ---- a row many times
 
 abbrev grown : ℕ → Row → Line → Line
 grown zero r x = x
-grown (suc n) r x = grown n r (joined (lineOf r) x)
+grown (suc n) r x = grown n r (mergedLine (lineOfRow r) x)
 
 grown-added : (n : ℕ) (r : Row) (x : Line) (l : List Line) → identityOf r ≡ x .identity
     → addRows (replicate n r) (insert x l) ≡ insert (grown n r x) l
 unfolding addRows
 grown-added zero r x l e = refl
 grown-added (suc n) r x l e =
-    ap (addRows (replicate n r)) (insert-twice (lineOf r) x l e) ∙ grown-added n r (joined (lineOf r) x) l refl
+    ap (addRows (replicate n r)) (insert-twice (lineOfRow r) x l e)
+    ∙ grown-added n r (mergedLine (lineOfRow r) x) l refl
 
 -- the earliest time after n rows at time e
 abbrev lower : ℕ → ℕ → ℕ → ℕ
@@ -150,7 +152,7 @@ grown-is zero i e loose x h s t =
     none true n = omega arith
     none false n = omega arith
 grown-is (suc n) i e loose x h s t =
-    let y = joined (lineOf (made i e loose)) x in
+    let y = mergedLine (lineOfRow (made i e loose)) x in
     let g : max e (x .latest) ≡ x .latest = omega arith in
     grown-is n i e loose y h (made-identity i e loose h) (omega arith)
     ∙ (λ j. record {
@@ -188,7 +190,7 @@ lower-once (suc m) e t h o = omega arith
 
 module _ (i e t : ℕ) (narrow : i < 2 ^ 32) (ordered : e ≤ t) (l : List Line) where
   abbrev first : Bool → Line
-  first loose = lineOf (made i t loose)
+  first loose = lineOfRow (made i t loose)
 
   kept-first : (k m : ℕ) → (ltb 1 (suc k + m) || eqb e t) ≡ true
       → addRows (rowsFor i e t (suc k) m) l
@@ -272,7 +274,7 @@ rows-lines (a ∷ lines) h r =
 -- ---- they fit an archive, and each gives a line
 
 isMade : Row → Bool
-isMade r = isFit r && (isLine (lineOf r) && areBytes (r .bytes))
+isMade r = isFit r && (isLine (lineOfRow r) && areBytes (r .bytes))
 
 made-is : (i time : ℕ) (loose : Bool) → i < 2 ^ 32 → time < 2 ^ 64 → isMade (made i time loose) ≡ true
 unfolding isMade
@@ -309,11 +311,11 @@ pub all-fit : (lines : List Line) → all isLine lines ≡ true → all isFit (m
 unfolding isMade
 all-fit lines h = all-weaker isMade isFit (λ r k. both (isFit r) _ k .0) (madeRows lines) (all-made lines h)
 
-pub all-lines : (lines : List Line) → all isLine lines ≡ true → all (λ r. isLine (lineOf r)) (madeRows lines) ≡ true
+pub all-lines : (lines : List Line) → all isLine lines ≡ true → all (λ r. isLine (lineOfRow r)) (madeRows lines) ≡ true
 unfolding isMade
 all-lines lines h =
-    all-weaker isMade (λ r. isLine (lineOf r))
-    (λ r k. both (isLine (lineOf r)) (areBytes (r .bytes)) (both (isFit r) _ k .1) .0)
+    all-weaker isMade (λ r. isLine (lineOfRow r))
+    (λ r k. both (isLine (lineOfRow r)) (areBytes (r .bytes)) (both (isFit r) _ k .1) .0)
     (madeRows lines) (all-made lines h)
 
 pub all-plain : (lines : List Line) → all isLine lines ≡ true → all isPlain (madeRows lines) ≡ true
@@ -322,5 +324,5 @@ all-plain lines h =
     all-weaker isMade isPlain
     (λ r k.
     let w = both (isFit r) _ k in
-    and-true (both (isRow r) _ (w .0) .0) (both (isLine (lineOf r)) (areBytes (r .bytes)) (w .1) .1))
+    and-true (both (isRow r) _ (w .0) .0) (both (isLine (lineOfRow r)) (areBytes (r .bytes)) (w .1) .1))
     (madeRows lines) (all-made lines h)

@@ -10,7 +10,7 @@ use native.Mathlib.Omega.{arith}
 use native.Mathlib.Decide.{decLt}
 use borrow.Author.Tests.{lt-ltb, le-ltb, eq-eqb, ne-eqb}
 use Rattle.archive_model.specs.Row.{Row}
-use Rattle.archive_report_model.specs.Report.{Line, lineOf, joined, insert, addRows}
+use Rattle.archive_report_model.specs.Report.{Line, lineOfRow, mergedLine, insert, addRows}
 
 -- three ways that two identities stand
 data Sides (x y : ℕ) : Type 0 where
@@ -32,7 +32,7 @@ module _ (a c : Line) (l : List Line) where
   unfolding insert
   insert-before h = rw (lt-ltb (a .identity) (c .identity) h)
 
-  pub insert-same : a .identity ≡ c .identity → insert a (c ∷ l) ≡ joined a c ∷ l
+  pub insert-same : a .identity ≡ c .identity → insert a (c ∷ l) ≡ mergedLine a c ∷ l
   unfolding insert
   insert-same e =
       let h : c .identity ≤ a .identity = omega arith in
@@ -47,7 +47,7 @@ module _ (a c : Line) (l : List Line) where
 
 -- what holds of a line inserted, by where it goes
 pub insert-cases : (P : List Line → Type 0) (a c : Line) (l : List Line)
-    → (a .identity < c .identity → P (a ∷ c ∷ l)) → (a .identity ≡ c .identity → P (joined a c ∷ l))
+    → (a .identity < c .identity → P (a ∷ c ∷ l)) → (a .identity ≡ c .identity → P (mergedLine a c ∷ l))
     → (c .identity < a .identity → P (c ∷ insert a l)) → P (insert a (c ∷ l))
 insert-cases P a c l f g h = go (sides (a .identity) (c .identity))
   where
@@ -56,20 +56,21 @@ insert-cases P a c l f g h = go (sides (a .identity) (c .identity))
     go (same k) = subst P (sym (insert-same a c l k)) (g k)
     go (after k) = subst P (sym (insert-after a c l k)) (h k)
 
-joined-comm : (a b : Line) → a .identity ≡ b .identity → joined a b ≡ joined b a
+joined-comm : (a b : Line) → a .identity ≡ b .identity → mergedLine a b ≡ mergedLine b a
 joined-comm a b e =
-    let k : joined a b .kept ≡ joined b a .kept = omega arith in
-    let l : joined a b .loose ≡ joined b a .loose = omega arith in
-    let s : joined a b .earliest ≡ joined b a .earliest = omega arith in
-    let t : joined a b .latest ≡ joined b a .latest = omega arith in
+    let k : mergedLine a b .kept ≡ mergedLine b a .kept = omega arith in
+    let l : mergedLine a b .loose ≡ mergedLine b a .loose = omega arith in
+    let s : mergedLine a b .earliest ≡ mergedLine b a .earliest = omega arith in
+    let t : mergedLine a b .latest ≡ mergedLine b a .latest = omega arith in
     λ i. record { identity = e i; kept = k i; loose = l i; earliest = s i; latest = t i }
 
-joined-left-comm : (a b c : Line) → a .identity ≡ b .identity → joined a (joined b c) ≡ joined b (joined a c)
+joined-left-comm : (a b c : Line) → a .identity ≡ b .identity
+    → mergedLine a (mergedLine b c) ≡ mergedLine b (mergedLine a c)
 joined-left-comm a b c e =
-    let k : joined a (joined b c) .kept ≡ joined b (joined a c) .kept = omega arith in
-    let l : joined a (joined b c) .loose ≡ joined b (joined a c) .loose = omega arith in
-    let s : joined a (joined b c) .earliest ≡ joined b (joined a c) .earliest = omega arith in
-    let t : joined a (joined b c) .latest ≡ joined b (joined a c) .latest = omega arith in
+    let k : mergedLine a (mergedLine b c) .kept ≡ mergedLine b (mergedLine a c) .kept = omega arith in
+    let l : mergedLine a (mergedLine b c) .loose ≡ mergedLine b (mergedLine a c) .loose = omega arith in
+    let s : mergedLine a (mergedLine b c) .earliest ≡ mergedLine b (mergedLine a c) .earliest = omega arith in
+    let t : mergedLine a (mergedLine b c) .latest ≡ mergedLine b (mergedLine a c) .latest = omega arith in
     λ i. record { identity = e i; kept = k i; loose = l i; earliest = s i; latest = t i }
 
 -- both go in front of what follows
@@ -87,7 +88,7 @@ over : (a b c : Line) (l : List Line) → a .identity < c .identity
 over a b c l h (before k) m = absurd (omega arith)
 over a b c l h (same e) m =
     let k : a .identity < b .identity = omega arith in
-    ap (insert a) (insert-same b c l e) ∙ insert-before a (joined b c) l k
+    ap (insert a) (insert-same b c l e) ∙ insert-before a (mergedLine b c) l k
     ∙ ap (λ (m : List Line). a ∷ m) (sym (insert-same b c l e))
     ∙ sym (insert-after b a (c ∷ l) k) ∙ ap (insert b) (sym (insert-before a c l h))
 over a b c l h (after k) m =
@@ -102,7 +103,7 @@ beside : (a b c : Line) (l : List Line) → a .identity ≡ c .identity
 beside a b c l e h =
     let k : a .identity < b .identity = omega arith in
     ap (insert a) (insert-after b c l h) ∙ insert-same a c (insert b l) e
-    ∙ sym (insert-after b (joined a c) l k) ∙ ap (insert b) (sym (insert-same a c l e))
+    ∙ sym (insert-after b (mergedLine a c) l k) ∙ ap (insert b) (sym (insert-same a c l e))
 
 step : (a b c : Line) (l : List Line) → Sides (a .identity) (c .identity)
     → Sides (b .identity) (c .identity) → insert a (insert b l) ≡ insert b (insert a l)
@@ -116,9 +117,9 @@ step a b c l (before h) (after k) i = over a b c l h (after k) (omega arith)
 step a b c l (same e) (before k) i = sym (over b a c l k (same e) (omega arith))
 step a b c l (after h) (before k) i = sym (over b a c l k (after h) (omega arith))
 step a b c l (same e) (same f) i =
-    ap (insert a) (insert-same b c l f) ∙ insert-same a (joined b c) l (e ∙ sym f)
+    ap (insert a) (insert-same b c l f) ∙ insert-same a (mergedLine b c) l (e ∙ sym f)
     ∙ ap (λ (x : Line). x ∷ l) (joined-left-comm a b c (e ∙ sym f))
-    ∙ sym (insert-same b (joined a c) l (f ∙ sym e)) ∙ ap (insert b) (sym (insert-same a c l e))
+    ∙ sym (insert-same b (mergedLine a c) l (f ∙ sym e)) ∙ ap (insert b) (sym (insert-same a c l e))
 step a b c l (same e) (after k) i = beside a b c l e k
 step a b c l (after h) (same f) i = sym (beside b a c l f h)
 step a b c l (after h) (after k) i =
@@ -142,25 +143,25 @@ pub add-insert : (rows : List Row) (a : Line) (lines : List Line)
 unfolding addRows
 add-insert [] a lines = refl
 add-insert (r ∷ rows) a lines =
-    ap (addRows rows) (insert-comm (lineOf r) a lines) ∙ add-insert rows a (insert (lineOf r) lines)
+    ap (addRows rows) (insert-comm (lineOfRow r) a lines) ∙ add-insert rows a (insert (lineOfRow r) lines)
 
 pub add-comm-rows : (xs ys : List Row) (lines : List Line)
     → addRows xs (addRows ys lines) ≡ addRows ys (addRows xs lines)
 unfolding addRows
 add-comm-rows [] ys lines = refl
 add-comm-rows (r ∷ xs) ys lines =
-    ap (addRows xs) (sym (add-insert ys (lineOf r) lines)) ∙ add-comm-rows xs ys (insert (lineOf r) lines)
+    ap (addRows xs) (sym (add-insert ys (lineOfRow r) lines)) ∙ add-comm-rows xs ys (insert (lineOfRow r) lines)
 
 pub add-append : (xs ys : List Row) (lines : List Line) → addRows (xs ++ ys) lines ≡ addRows ys (addRows xs lines)
 unfolding addRows
 add-append [] ys lines = refl
-add-append (r ∷ xs) ys lines = add-append xs ys (insert (lineOf r) lines)
+add-append (r ∷ xs) ys lines = add-append xs ys (insert (lineOfRow r) lines)
 
 -- the last row first
 pub add-first : (r : Row) (rows : List Row) (lines : List Line)
-    → addRows (r ∷ rows) lines ≡ insert (lineOf r) (addRows rows lines)
+    → addRows (r ∷ rows) lines ≡ insert (lineOfRow r) (addRows rows lines)
 unfolding addRows
-add-first r rows lines = add-insert rows (lineOf r) lines
+add-first r rows lines = add-insert rows (lineOfRow r) lines
 
 pub add-none : (lines : List Line) → addRows [] lines ≡ lines
 unfolding addRows

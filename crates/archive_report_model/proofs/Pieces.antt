@@ -18,8 +18,8 @@ use Rattle.archive_model.specs.Buffer.{Found, At, None, isWhole, blocksIn, rows
 use Rattle.archive_model.specs.Append.{verdict}
 use Rattle.archive_model.proofs.Pieces.{scan-found, rows-count, at-none}
 use Rattle.archive_model.proofs.Buffers.{blank-count}
-use Rattle.archive_report_model.specs.Report.{Line, Report, maxLines, addRows, keptIn, looseIn, isReport, answer, added, addOf}
-use Rattle.archive_report_model.specs.Pieces.{Tally, startTally, countedRows, counted, addBlock, addBlocks, closed, closing}
+use Rattle.archive_report_model.specs.Report.{Line, Report, maxLines, addRows, keptIn, looseIn, isReport, addition, added, addOf}
+use Rattle.archive_report_model.specs.Pieces.{Tally, startTally, countedRows, tallyAfter, addBlock, addBlocks, tallyAddition, closing}
 use Rattle.archive_report_model.proofs.Order.{add-append, add-none}
 use Rattle.archive_report_model.proofs.Lines.{more-added, count-append}
 use Rattle.archive_report_model.proofs.Additions.{facts}
@@ -38,15 +38,15 @@ over-more false lines xs ys h =
     lt-ltb maxLines (length (addRows (xs ++ ys) lines))
     (omega (arith, ap length (add-append xs ys lines), more-added (addRows xs lines) ys))
 
-twice : (t : Tally) (xs ys : List Row) (a b : Scan) → counted (counted t xs a) ys b ≡ counted t (xs ++ ys) b
+twice : (t : Tally) (xs ys : List Row) (a b : Scan) → tallyAfter (tallyAfter t xs a) ys b ≡ tallyAfter t (xs ++ ys) b
 twice t xs ys a b =
-    by-test {X = counted (counted t xs a) ys b ≡ counted t (xs ++ ys) b}
+    by-test {X = tallyAfter (tallyAfter t xs a) ys b ≡ tallyAfter t (xs ++ ys) b}
     (t .over || ltb maxLines (length (addRows xs (t .lines))))
     (λ h. rw (h, over-more (t .over) (t .lines) xs ys h))
     (λ h. rw h (go (t .over) h))
   where
     go : (over : Bool) → (over || ltb maxLines (length (addRows xs (t .lines)))) ≡ false
-        → counted
+        → tallyAfter
         (record {
           lines = addRows xs (t .lines);
           kept = t .kept + keptIn xs;
@@ -55,7 +55,7 @@ twice t xs ys a b =
           scan = a;
         })
         ys b
-        ≡ counted (record { lines = t .lines; kept = t .kept; loose = t .loose; over = over; scan = t .scan })
+        ≡ tallyAfter (record { lines = t .lines; kept = t .kept; loose = t .loose; over = over; scan = t .scan })
         (xs ++ ys) b
     go true h = absurd (false≢true (sym h))
     go false h =
@@ -67,7 +67,7 @@ twice t xs ys a b =
 
 -- a tally that no rows change: one without a line too many, or one that has none left
 abbrev Settled : Tally → Type 0
-Settled t = counted t [] (t .scan) ≡ t
+Settled t = tallyAfter t [] (t .scan) ≡ t
 
 start-settled : (s : Report) → length (s .lines) ≤ maxLines → Settled (startTally s)
 start-settled s h =
@@ -75,25 +75,25 @@ start-settled s h =
     let l : s .loose + 0 ≡ s .loose = omega arith in
     rw (add-none (s .lines), le-ltb maxLines (length (s .lines)) h, k, l)
 
-scan-of : (t : Tally) (rows : List Row) (scan : Scan) → counted t rows scan .scan ≡ scan
+scan-of : (t : Tally) (rows : List Row) (scan : Scan) → tallyAfter t rows scan .scan ≡ scan
 scan-of t rows scan =
-    by-test {X = counted t rows scan .scan ≡ scan}
+    by-test {X = tallyAfter t rows scan .scan ≡ scan}
     (t .over || ltb maxLines (length (addRows rows (t .lines)))) (λ h. rw h) (λ h. rw h)
 
-counted-settled : (t : Tally) (rows : List Row) (scan : Scan) → Settled (counted t rows scan)
+counted-settled : (t : Tally) (rows : List Row) (scan : Scan) → Settled (tallyAfter t rows scan)
 counted-settled t rows scan =
-    ap (counted (counted t rows scan) []) (scan-of t rows scan) ∙ twice t rows [] scan scan
-    ∙ ap (λ (l : List Row). counted t l scan) (append-nil rows)
+    ap (tallyAfter (tallyAfter t rows scan) []) (scan-of t rows scan) ∙ twice t rows [] scan scan
+    ∙ ap (λ (l : List Row). tallyAfter t l scan) (append-nil rows)
 
 tally-rows : (t : Tally) → Settled t → (blocks : List (List ℕ))
-    → addBlocks t blocks ≡ counted t (rowsOfBlocks blocks) (scanBlocks (t .scan) blocks)
+    → addBlocks t blocks ≡ tallyAfter t (rowsOfBlocks blocks) (scanBlocks (t .scan) blocks)
 unfolding addBlocks addBlock flatten scanBlocks
 tally-rows t h [] = sym h
 tally-rows t h (b ∷ bs) =
     let next = scanBlock (t .scan) b in
     let rows = rowsOfBlocks bs in
-    tally-rows (counted t (countedRows b) next) (counted-settled t (countedRows b) next) bs
-    ∙ ap (λ (a : Scan). counted (counted t (countedRows b) next) rows (scanBlocks a bs))
+    tally-rows (tallyAfter t (countedRows b) next) (counted-settled t (countedRows b) next) bs
+    ∙ ap (λ (a : Scan). tallyAfter (tallyAfter t (countedRows b) next) rows (scanBlocks a bs))
     (scan-of t (countedRows b) next)
     ∙ twice t (countedRows b) rows next (scanBlocks next bs)
 
@@ -152,7 +152,7 @@ module _ (s : Report) (buffer : List ℕ) (r : isReport s ≡ true) (w : isWhole
   abbrev scan : Scan
   scan = scanBlocks startScan (blocksIn buffer)
 
-  tally-is : tally ≡ counted (startTally s) (rowsOfBlocks (blocksIn buffer)) scan
+  tally-is : tally ≡ tallyAfter (startTally s) (rowsOfBlocks (blocksIn buffer)) scan
   tally-is = tally-rows (startTally s) (start-settled s (facts s r .few)) (blocksIn buffer)
 
   stage-is : stageFound (tally .scan .stage) ≡ mismatch buffer
@@ -161,25 +161,26 @@ module _ (s : Report) (buffer : List ℕ) (r : isReport s ≡ true) (w : isWhole
       ∙ ap (λ (a : Scan). stageFound (a .stage)) (scan-of (startTally s) (rowsOfBlocks (blocksIn buffer)) scan)
       ∙ scan-found buffer
 
-  damaged : (k : ℕ) → mismatch buffer ≡ At k → answer (numberOf Mismatch) k s ≡ addOf s buffer
+  damaged : (k : ℕ) → mismatch buffer ≡ At k → addition (numberOf Mismatch) k s ≡ addOf s buffer
   unfolding addOf verdict
   damaged k e = rw (r, w, e)
 
-  matched : mismatch buffer ≡ None → closed s (counted (startTally s) (rowsIn buffer) scan) None ≡ addOf s buffer
+  matched : mismatch buffer ≡ None
+      → tallyAddition s (tallyAfter (startTally s) (rowsIn buffer) scan) None ≡ addOf s buffer
   unfolding addOf verdict added
   matched e =
-      by-test {X = closed s (counted (startTally s) (rowsIn buffer) scan) None ≡ addOf s buffer}
+      by-test {X = tallyAddition s (tallyAfter (startTally s) (rowsIn buffer) scan) None ≡ addOf s buffer}
       (ltb maxLines (length (addRows (rowsIn buffer) (s .lines))))
       (λ h. rw (r, w, e, h))
       (λ h. rw (r, w, e, h))
 
-  by-found : (f : Found) → mismatch buffer ≡ f → closed s tally f ≡ addOf s buffer
+  by-found : (f : Found) → mismatch buffer ≡ f → tallyAddition s tally f ≡ addOf s buffer
   by-found (At k) e = damaged k e
   by-found None e =
-      ap (λ (t : Tally). closed s t None)
-      (tally-is ∙ ap (λ (rows : List Row). counted (startTally s) rows scan) (rows-counted buffer e))
+      ap (λ (t : Tally). tallyAddition s t None)
+      (tally-is ∙ ap (λ (rows : List Row). tallyAfter (startTally s) rows scan) (rows-counted buffer e))
       ∙ matched e
 
   pub closing-is : closing s tally ≡ addOf s buffer
   unfolding closing
-  closing-is = ap (closed s tally) stage-is ∙ by-found (mismatch buffer) refl
+  closing-is = ap (tallyAddition s tally) stage-is ∙ by-found (mismatch buffer) refl

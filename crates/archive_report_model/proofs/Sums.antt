@@ -18,8 +18,8 @@ use Rattle.base_lists.proofs.Keep.{keep-in}
 use Rattle.base_lists.proofs.Tests.{and-true, by-test}
 use Rattle.archive_model.specs.Row.{Row}
 use Rattle.archive_model.specs.Identity.{identityOf}
-use Rattle.archive_report_model.specs.Report.{Line, lineOf, joined, insert, addRows, keptIn, looseIn, isRising}
-use Rattle.archive_report_model.specs.Claims.{rowsFrom, isLeast, isGreatest, Counts}
+use Rattle.archive_report_model.specs.Report.{Line, lineOfRow, mergedLine, insert, addRows, keptIn, looseIn, isRising}
+use Rattle.archive_report_model.specs.Claims.{rowsOfTransmitter, isLeast, isGreatest, SumsUp}
 use Rattle.archive_report_model.proofs.Order.{insert-cases, insert-nil, add-first, add-none}
 use Rattle.archive_report_model.proofs.Lines.{rising-added, above-all}
 
@@ -29,7 +29,7 @@ linesAt i l = keep (λ a. eqb (a .identity) i) l
 -- a line joined to the one there is, if any
 abbrev merged : Line → List Line → List Line
 merged a [] = a ∷ []
-merged a (b ∷ l) = joined a b ∷ l
+merged a (b ∷ l) = mergedLine a b ∷ l
 
 none-at : (i : ℕ) (l : List Line) → all (λ b. ltb i (b .identity)) l ≡ true → linesAt i l ≡ []
 none-at i [] h = refl
@@ -55,9 +55,9 @@ module _ (i : ℕ) (a : Line) where
       (λ f. rw f)
 
   same-at : (c : Line) (l : List Line) → a .identity ≡ c .identity
-      → linesAt i (joined a c ∷ l) ≡ after (linesAt i (c ∷ l))
+      → linesAt i (mergedLine a c ∷ l) ≡ after (linesAt i (c ∷ l))
   same-at c l e =
-      by-test {X = linesAt i (joined a c ∷ l) ≡ after (linesAt i (c ∷ l))} (eqb (a .identity) i)
+      by-test {X = linesAt i (mergedLine a c ∷ l) ≡ after (linesAt i (c ∷ l))} (eqb (a .identity) i)
       (λ t. rw (← e, t))
       (λ f. rw (← e, f))
 
@@ -84,28 +84,28 @@ module _ (i : ℕ) (a : Line) where
 
 abbrev given : List Row → List Line
 given [] = []
-given (r ∷ rows) = merged (lineOf r) (given rows)
+given (r ∷ rows) = merged (lineOfRow r) (given rows)
 
-lines-at : (i : ℕ) (rows : List Row) → linesAt i (addRows rows []) ≡ given (rowsFrom i rows)
+lines-at : (i : ℕ) (rows : List Row) → linesAt i (addRows rows []) ≡ given (rowsOfTransmitter i rows)
 lines-at i [] = ap (linesAt i) (add-none [])
 lines-at i (r ∷ rows) =
-    ap (linesAt i) (add-first r rows []) ∙ insert-at i (lineOf r) (addRows rows []) (rising-added [] rows refl)
+    ap (linesAt i) (add-first r rows []) ∙ insert-at i (lineOfRow r) (addRows rows []) (rising-added [] rows refl)
     ∙ step (eqb (identityOf r) i) (lines-at i rows)
   where
-    step : (t : Bool) → linesAt i (addRows rows []) ≡ given (rowsFrom i rows)
-        → cond t (merged (lineOf r) (linesAt i (addRows rows []))) (linesAt i (addRows rows []))
-        ≡ given (cond t (r ∷ rowsFrom i rows) (rowsFrom i rows))
-    step true e = ap (merged (lineOf r)) e
+    step : (t : Bool) → linesAt i (addRows rows []) ≡ given (rowsOfTransmitter i rows)
+        → cond t (merged (lineOfRow r) (linesAt i (addRows rows []))) (linesAt i (addRows rows []))
+        ≡ given (cond t (r ∷ rowsOfTransmitter i rows) (rowsOfTransmitter i rows))
+    step true e = ap (merged (lineOfRow r)) e
     step false e = e
 
-kept-more : (r : Row) (rows : List Row) (n : ℕ) → n ≡ keptIn rows → lineOf r .kept + n ≡ keptIn (r ∷ rows)
+kept-more : (r : Row) (rows : List Row) (n : ℕ) → n ≡ keptIn rows → lineOfRow r .kept + n ≡ keptIn (r ∷ rows)
 kept-more r rows n e = go (r .loose)
   where
     go : (b : Bool) → cond b 0 1 + n ≡ cond (not b) (keptIn rows + 1) (keptIn rows)
     go true = omega arith
     go false = omega arith
 
-loose-more : (r : Row) (rows : List Row) (n : ℕ) → n ≡ looseIn rows → lineOf r .loose + n ≡ looseIn (r ∷ rows)
+loose-more : (r : Row) (rows : List Row) (n : ℕ) → n ≡ looseIn rows → lineOfRow r .loose + n ≡ looseIn (r ∷ rows)
 loose-more r rows n e = go (r .loose)
   where
     go : (b : Bool) → cond b 1 0 + n ≡ cond b (looseIn rows + 1) (looseIn rows)
@@ -158,7 +158,7 @@ module _ (r : Row) (rows : List Row) (e : ℕ) where
             rw m (and-true (later (w .0)) (and-true (le-leb (r .time) e (omega arith)) (w .1)))
       ]
 
-given-one : (r : Row) → Counts (r ∷ []) (lineOf r)
+given-one : (r : Row) → SumsUp (r ∷ []) (lineOfRow r)
 given-one r = record {
   kept = omega (arith, kept-more r [] 0 refl);
   loose = omega (arith, loose-more r [] 0 refl);
@@ -166,14 +166,14 @@ given-one r = record {
   latest = and-true (first r [] 0) (and-true (le-leb (r .time) (r .time) (omega arith)) refl);
 }
 
-given-counts : (r : Row) (rows : List Row) → (a : Line) × (given (r ∷ rows) ≡ a ∷ []) × Counts (r ∷ rows) a
-given-counts r [] = (lineOf r, refl, given-one r)
+given-counts : (r : Row) (rows : List Row) → (a : Line) × (given (r ∷ rows) ≡ a ∷ []) × SumsUp (r ∷ rows) a
+given-counts r [] = (lineOfRow r, refl, given-one r)
 given-counts r (q ∷ rows) =
     let g = given-counts q rows in
     let a = g .0 in
     let c = g .2 in (
-      joined (lineOf r) a,
-      ap (merged (lineOf r)) (g .1),
+      mergedLine (lineOfRow r) a,
+      ap (merged (lineOfRow r)) (g .1),
       record {
         kept = kept-more r (q ∷ rows) (a .kept) (c .kept);
         loose = loose-more r (q ∷ rows) (a .loose) (c .loose);
@@ -182,19 +182,20 @@ given-counts r (q ∷ rows) =
       },
     )
 
-pub line-counts : (rows : List Row) (a : Line) → List·Memᴰ a (addRows rows []) → Counts (rowsFrom (a .identity) rows) a
+pub line-counts : (rows : List Row) (a : Line) → List·Memᴰ a (addRows rows [])
+    → SumsUp (rowsOfTransmitter (a .identity) rows) a
 line-counts rows a m =
     let i = a .identity in
-    go (rowsFrom i rows)
+    go (rowsOfTransmitter i rows)
     (subst (λ (l : List Line). List·Memᴰ a l) (lines-at i rows)
     (keep-in (λ (b : Line). eqb (b .identity) i) m (eq-eqb i i refl)))
   where
-    go : (own : List Row) → List·Memᴰ a (given own) → Counts own a
+    go : (own : List Row) → List·Memᴰ a (given own) → SumsUp own a
     go [] n = absurd (List·Memᴰ·not-nil n)
     go (r ∷ own) n =
         let g = given-counts r own in
         let e : a ≡ g .0 = List·Memᴰ·eq-of-singleton (subst (λ (l : List Line). List·Memᴰ a l) (g .1) n) in
-        subst (λ (b : Line). Counts (r ∷ own) b) (sym e) (g .2)
+        subst (λ (b : Line). SumsUp (r ∷ own) b) (sym e) (g .2)
 
 -- ---- which have a line
 
@@ -224,5 +225,5 @@ module _ (i : ℕ) where
   pub any-added : (rows : List Row) → hasLine (addRows rows []) ≡ any (λ r. eqb (identityOf r) i) rows
   any-added [] = ap hasLine (add-none [])
   any-added (r ∷ rows) =
-      ap hasLine (add-first r rows []) ∙ any-insert (lineOf r) (addRows rows [])
+      ap hasLine (add-first r rows []) ∙ any-insert (lineOfRow r) (addRows rows [])
       ∙ ap (λ (t : Bool). eqb (identityOf r) i || t) (any-added rows)

@@ -16,7 +16,7 @@ use Rattle.base_lists.proofs.Tests.{and-true}
 use Rattle.base_crc8.specs.Crc8.{stepOf, crcFrom, crcOf}
 use Rattle.base_crc8.proofs.Divided.{long-division}
 use Rattle.radio_erp1.specs.Status.{splitOf}
-use Rattle.radio_erp1.specs.Subtelegram.{lastOf, sumOf, hashOf, maxLength, checkOf}
+use Rattle.radio_erp1.specs.Subtelegram.{lastByte, sumOf, hashOf, maxLength, checkOf}
 use Rattle.radio_erp1.proofs.Checks.{check-facts}
 use Rattle.base_buffers.specs.Buffer.{part}
 use Rattle.block_layout.specs.BigEndian.{be}
@@ -24,7 +24,7 @@ use Rattle.block_layout.specs.Cell.{cellCapacity, cellOf}
 use Rattle.block_layout.specs.Block.{cellsPerBlock, bodyLength, sealed, blockOf}
 use Rattle.archive_model.specs.Row.{Row, rowLast, rowCell, rowsHeader, rowsBlock, isRow}
 use Rattle.archive_model.specs.Buffer.{rowsAt, blocksFor, archiveOf, bufferOf}
-use Rattle.archive_report_model.specs.Claims.{areBytes}
+use Rattle.base_numbers.specs.Bytes.{areBytes}
 use Rattle.archive_report_model.proofs.Bytes.{all-append, all-part, all-repeated, all-flat}
 
 abbrev isByte : ℕ → Bool
@@ -54,7 +54,7 @@ crc-byte bs t = crc-from 0 bs (omega arith) t
 
 pub hash-byte : (bs : List ℕ) → areBytes bs ≡ true → hashOf bs < 256
 unfolding hashOf
-hash-byte bs t = go (splitOf (lastOf bs) .crc)
+hash-byte bs t = go (splitOf (lastByte bs) .crc)
   where
     go : (b : Bool) → cond b (crcOf bs) (sumOf bs % 256) < 256
     go true = crc-byte bs t

@@ -10,7 +10,8 @@ use Rattle.archive_model.specs.Row.{Row}
 use Rattle.archive_model.specs.Buffer.{rowsIn}
 use Rattle.archive_model.specs.Identity.{identityOf}
 use Rattle.archive_report_model.specs.Report.{Line, Report, emptyReport, keptIn, looseIn, isRising, isReport, addOf, shareOf}
-use Rattle.archive_report_model.specs.Pieces.{Adding, startAdding, isAdding, feedOf, endedOf}
+use Rattle.archive_report_model.specs.Pieces.{Adding, startAdding, isAdding, addPieceOf, endedOf}
+use Rattle.base_numbers.specs.Bytes.{areBytes}
 
 -- ---- archives that are added one after another
 
@@ -20,10 +21,10 @@ addAll s [] = s
 addAll s (b ∷ bs) = addAll (addOf s b .next) bs
 
 -- the archives that were answered 0
-abbrev pub accepted : Report → List (List ℕ) → List (List ℕ)
-accepted s [] = []
-accepted s (b ∷ bs) =
-    cond (eqb (addOf s b .number) 0) (b ∷ accepted (addOf s b .next) bs) (accepted (addOf s b .next) bs)
+abbrev pub archivesAccepted : Report → List (List ℕ) → List (List ℕ)
+archivesAccepted s [] = []
+archivesAccepted s (b ∷ bs) =
+    cond (eqb (addOf s b .number) 0) (b ∷ archivesAccepted (addOf s b .next) bs) (archivesAccepted (addOf s b .next) bs)
 
 -- "where none is refused"
 abbrev pub noneRefused : Report → List (List ℕ) → Bool
@@ -34,15 +35,11 @@ noneRefused s (b ∷ bs) = eqb (addOf s b .number) 0 && noneRefused (addOf s b .
 unfoldable pub rowsOfAll : List (List ℕ) → List Row
 rowsOfAll buffers = flatten (map rowsIn buffers)
 
--- all elements of a buffer are bytes
-abbrev pub areBytes : List ℕ → Bool
-areBytes buffer = all (λ b. ltb b 256) buffer
-
 -- ---- the sums
 
 -- the rows of one transmitter
-abbrev pub rowsFrom : ℕ → List Row → List Row
-rowsFrom identity rows = keep (λ r. eqb (identityOf r) identity) rows
+abbrev pub rowsOfTransmitter : ℕ → List Row → List Row
+rowsOfTransmitter identity rows = keep (λ r. eqb (identityOf r) identity) rows
 
 -- t is one of the times, and none is less; or none is greater
 abbrev pub isLeast : ℕ → List Row → Bool
@@ -52,7 +49,7 @@ abbrev pub isGreatest : ℕ → List Row → Bool
 isGreatest t rows = any (λ r. eqb (r .time) t) rows && all (λ r. leb (r .time) t) rows
 
 -- the numbers of a line are those of these rows
-pub record Counts (rows : List Row) (a : Line) : Type 0 where
+pub record SumsUp (rows : List Row) (a : Line) : Type 0 where
   pub kept : a .kept ≡ keptIn rows
   pub loose : a .loose ≡ looseIn rows
   pub earliest : isLeast (a .earliest) rows ≡ true
@@ -67,11 +64,11 @@ pub record Sums (buffers : List (List ℕ)) (s : Report) : Type 0 where
   pub ordered : isRising (s .lines) ≡ true
   pub transmitters : (i : ℕ)
       → any (λ a. eqb (a .identity) i) (s .lines) ≡ any (λ r. eqb (identityOf r) i) (rowsOfAll buffers)
-  pub lines : (a : Line) → List·Memᴰ a (s .lines) → Counts (rowsFrom (a .identity) (rowsOfAll buffers)) a
+  pub lines : (a : Line) → List·Memᴰ a (s .lines) → SumsUp (rowsOfTransmitter (a .identity) (rowsOfAll buffers)) a
 
 -- Totals are sums: "Totals equal the sums over the rows of all archives taken", also with refused archives among them.
 abbrev pub TotalsAreSums : Type 0
-TotalsAreSums = (buffers : List (List ℕ)) → Sums (accepted emptyReport buffers) (addAll emptyReport buffers)
+TotalsAreSums = (buffers : List (List ℕ)) → Sums (archivesAccepted emptyReport buffers) (addAll emptyReport buffers)
 
 -- Any order: "where none is refused their order changes nothing". In another order, none is refused either.
 abbrev pub AnyOrder : Type 0
@@ -105,20 +102,21 @@ ShareRoundedDown =
 -- ---- an archive that is added piece by piece
 
 -- what is known after the pieces
-abbrev pub feedAll : Adding → List (List ℕ) → Adding
-feedAll a [] = a
-feedAll a (p ∷ ps) = feedAll (feedOf a p .next) ps
+abbrev pub addPieces : Adding → List (List ℕ) → Adding
+addPieces a [] = a
+addPieces a (p ∷ ps) = addPieces (addPieceOf a p .next) ps
 
 -- the pieces that were answered 0
 abbrev pub fedPieces : Adding → List (List ℕ) → List (List ℕ)
 fedPieces a [] = []
 fedPieces a (p ∷ ps) =
-    cond (eqb (feedOf a p .number) 0) (p ∷ fedPieces (feedOf a p .next) ps) (fedPieces (feedOf a p .next) ps)
+    cond (eqb (addPieceOf a p .number) 0) (p ∷ fedPieces (addPieceOf a p .next) ps)
+    (fedPieces (addPieceOf a p .next) ps)
 
 -- Pieces are whole: what pieces give is refused with 11 exactly if the report is. At the end, the pieces that were
 -- taken give what the whole archive gives, also with refused pieces among them.
 abbrev pub PiecesAreWhole : Type 0
 PiecesAreWhole =
     (s : Report) (pieces : List (List ℕ)) → all areBytes pieces ≡ true
-    → (isAdding (feedAll (startAdding s) pieces) ≡ isReport s)
-    × (endedOf (feedAll (startAdding s) pieces) ≡ addOf s (flatten (fedPieces (startAdding s) pieces)))
+    → (isAdding (addPieces (startAdding s) pieces) ≡ isReport s)
+    × (endedOf (addPieces (startAdding s) pieces) ≡ addOf s (flatten (fedPieces (startAdding s) pieces)))

@@ -10,7 +10,7 @@ use Rattle.archive_model.specs.Row.{Row, rowsOf, isSound}
 use Rattle.block_layout.specs.Block.{blockLength}
 use Rattle.archive_model.specs.Buffer.{Found, At, None, isWhole, blocksIn, Scan, startScan, scanBlock, stageFound}
 use Rattle.archive_model.specs.Append.{isScan}
-use Rattle.archive_report_model.specs.Report.{Line, Report, maxArchives, maxLines, addRows, keptIn, looseIn, isTally, isReport, Addition, answer}
+use Rattle.archive_report_model.specs.Report.{Line, Report, maxArchives, maxLines, addRows, keptIn, looseIn, isTally, isReport, Addition, addition}
 
 -- the lines and the totals so far, whether there were more than 256 transmitters (then there are no lines), and the
 -- scan of the blocks
@@ -30,8 +30,8 @@ abbrev pub countedRows : List ℕ → List Row
 countedRows block = cond (isSound block) (rowsOf block) []
 
 -- the tally after more rows
-abbrev pub counted : Tally → List Row → Scan → Tally
-counted t rows scan =
+abbrev pub tallyAfter : Tally → List Row → Scan → Tally
+tallyAfter t rows scan =
     cond (t .over || ltb maxLines (length (addRows rows (t .lines))))
     (record { lines = []; kept = 0; loose = 0; over = true; scan = scan })
     (record {
@@ -44,7 +44,7 @@ counted t rows scan =
 
 -- the tally after one more block
 unfoldable pub addBlock : Tally → List ℕ → Tally
-addBlock t block = counted t (countedRows block) (scanBlock (t .scan) block)
+addBlock t block = tallyAfter t (countedRows block) (scanBlock (t .scan) block)
 
 -- the tally after more blocks
 unfoldable pub addBlocks : Tally → List (List ℕ) → Tally
@@ -52,16 +52,16 @@ addBlocks t [] = t
 addBlocks t (b ∷ bs) = addBlocks (addBlock t b) bs
 
 -- the answer after all blocks: 12, 10, 17, or the new report
-abbrev pub closed : Report → Tally → Found → Addition
-closed s t (At k) = answer (numberOf Mismatch) k s
-closed s t None =
-    cond (leb maxArchives (s .archives)) (answer (numberOf Argument) 0 s)
-    (cond (t .over) (answer (numberOf Transmitters) 0 s)
-    (answer 0 0 (record { archives = s .archives + 1; lines = t .lines; kept = t .kept; loose = t .loose })))
+abbrev pub tallyAddition : Report → Tally → Found → Addition
+tallyAddition s t (At k) = addition (numberOf Mismatch) k s
+tallyAddition s t None =
+    cond (leb maxArchives (s .archives)) (addition (numberOf Argument) 0 s)
+    (cond (t .over) (addition (numberOf Transmitters) 0 s)
+    (addition 0 0 (record { archives = s .archives + 1; lines = t .lines; kept = t .kept; loose = t .loose })))
 
 -- the answer after all blocks, by the stage of the scan
 unfoldable pub closing : Report → Tally → Addition
-closing s t = closed s t (stageFound (t .scan .stage))
+closing s t = tallyAddition s t (stageFound (t .scan .stage))
 
 -- ---- the calls in pieces
 
@@ -95,20 +95,20 @@ abbrev pub isPiece : Scan → List ℕ → Bool
 isPiece scan piece = isWhole (blockLength * scan .blocks + length piece)
 
 -- the number, and what is known after the piece
-pub record Feeding : Type 0 where
+pub record PieceAdded : Type 0 where
   pub number : ℕ
   pub next : Adding
 
-abbrev pub fed : ℕ → Adding → Feeding
-fed number next = record { number = number; next = next }
+abbrev pub pieceAnswer : ℕ → Adding → PieceAdded
+pieceAnswer number next = record { number = number; next = next }
 
 -- 11; then 16 for a piece that isn't whole blocks, or if there are then more than 2^32 blocks in all
-unfoldable pub feedOf : Adding → List ℕ → Feeding
-feedOf a piece =
-    cond (not (isAdding a)) (fed (numberOf NotAccepted) a)
-    (cond (not (isPiece (a .tally .scan) piece)) (fed (numberOf Size) a)
-    (fed 0 (adding (a .report) (addBlocks (a .tally) (blocksIn piece)))))
+unfoldable pub addPieceOf : Adding → List ℕ → PieceAdded
+addPieceOf a piece =
+    cond (not (isAdding a)) (pieceAnswer (numberOf NotAccepted) a)
+    (cond (not (isPiece (a .tally .scan) piece)) (pieceAnswer (numberOf Size) a)
+    (pieceAnswer 0 (adding (a .report) (addBlocks (a .tally) (blocksIn piece)))))
 
 -- 11; then what `addOf` answers: 12, 10, 17, or the new report
 unfoldable pub endedOf : Adding → Addition
-endedOf a = cond (not (isAdding a)) (answer (numberOf NotAccepted) 0 (a .report)) (closing (a .report) (a .tally))
+endedOf a = cond (not (isAdding a)) (addition (numberOf NotAccepted) 0 (a .report)) (closing (a .report) (a .tally))

@@ -42,8 +42,8 @@ emptyReport = record { archives = 0; lines = []; kept = 0; loose = 0 }
 -- ---- one row more
 
 -- the line of one row
-abbrev pub lineOf : Row → Line
-lineOf r = record {
+abbrev pub lineOfRow : Row → Line
+lineOfRow r = record {
   identity = identityOf r;
   kept = cond (r .loose) 0 1;
   loose = cond (r .loose) 1 0;
@@ -52,8 +52,8 @@ lineOf r = record {
 }
 
 -- one line from two lines of the same transmitter
-abbrev pub joined : Line → Line → Line
-joined a b = record {
+abbrev pub mergedLine : Line → Line → Line
+mergedLine a b = record {
   identity = a .identity;
   kept = a .kept + b .kept;
   loose = a .loose + b .loose;
@@ -66,13 +66,13 @@ unfoldable pub insert : Line → List Line → List Line
 insert a [] = a ∷ []
 insert a (b ∷ lines) =
     cond (ltb (a .identity) (b .identity)) (a ∷ b ∷ lines)
-    (cond (eqb (a .identity) (b .identity)) (joined a b ∷ lines)
+    (cond (eqb (a .identity) (b .identity)) (mergedLine a b ∷ lines)
     (b ∷ insert a lines))
 
 -- the lines after more rows
 unfoldable pub addRows : List Row → List Line → List Line
 addRows [] lines = lines
-addRows (r ∷ rows) lines = addRows rows (insert (lineOf r) lines)
+addRows (r ∷ rows) lines = addRows rows (insert (lineOfRow r) lines)
 
 -- "the KEPT and LOOSE rows"
 abbrev pub looseIn : List Row → ℕ
@@ -130,8 +130,8 @@ pub record Addition : Type 0 where
   pub position : ℕ
   pub next : Report
 
-abbrev pub answer : ℕ → ℕ → Report → Addition
-answer number position next = record { number = number; position = position; next = next }
+abbrev pub addition : ℕ → ℕ → Report → Addition
+addition number position next = record { number = number; position = position; next = next }
 
 -- a report with the rows of one more archive
 unfoldable pub added : Report → List Row → Report
@@ -145,11 +145,11 @@ added s rows = record {
 -- 11; 16 and 12 as `verdict` says; 10 for a 65th archive; 17 for a 257th transmitter; "a refused archive adds nothing"
 unfoldable pub addOf : Report → List ℕ → Addition
 addOf s buffer =
-    cond (not (isReport s)) (answer (numberOf NotAccepted) 0 s)
-    (cond (not (eqb (verdict buffer .number) 0)) (answer (verdict buffer .number) (verdict buffer .position) s)
-    (cond (leb maxArchives (s .archives)) (answer (numberOf Argument) 0 s)
-    (cond (ltb maxLines (length (addRows (rowsIn buffer) (s .lines)))) (answer (numberOf Transmitters) 0 s)
-    (answer 0 0 (added s (rowsIn buffer))))))
+    cond (not (isReport s)) (addition (numberOf NotAccepted) 0 s)
+    (cond (not (eqb (verdict buffer .number) 0)) (addition (verdict buffer .number) (verdict buffer .position) s)
+    (cond (leb maxArchives (s .archives)) (addition (numberOf Argument) 0 s)
+    (cond (ltb maxLines (length (addRows (rowsIn buffer) (s .lines)))) (addition (numberOf Transmitters) 0 s)
+    (addition 0 0 (added s (rowsIn buffer))))))
 
 -- the number, and the share in thousandths; 0 with a refusal
 pub record Share : Type 0 where

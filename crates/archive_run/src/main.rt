@@ -2,15 +2,15 @@
 // (tests/reference/README.md has the format).
 mod reports;
 
+use archive_file::ArchiveOutcome;
 use archive_file::Found;
 use archive_file::Opened;
-use archive_file::Outcome;
 use archive_file::RowAt;
 use archive_file::Scan;
 use archive_file::Stage;
-use archive_file::Taken;
 use archive_repack::Removed;
 use archive_report::Report;
+use base_refusal::Outcome;
 ghost use mathlib.Core.Path.{_≡_};
 ghost use Prim.Native.Nat.{_≤_, _<_, min};
 ghost use lib.ListN.{length};
@@ -191,7 +191,7 @@ fn store_one(buffer: &mut [u8], at: usize, byte: u8) {
 fn append(buffer: &mut [u8], r: &[u8])
     requires { ⌜ length (now r) ≡ 320 ⌝ }
 {
-    let len = least(wide(r[10]), 64);
+    let len = least(base_numbers::u64_of_byte(r[10]), 64);
     let time = block_layout::read_number(&r[1..9]);
     let answer = archive_file::append(buffer, &r[11..11 + len], time, r[9] != 0);
     test_io::text(b"APPEND ");
@@ -202,7 +202,7 @@ fn append(buffer: &mut [u8], r: &[u8])
 fn append_at(buffer: &mut [u8], r: &[u8])
     requires { ⌜ length (now r) ≡ 320 ⌝ }
 {
-    let len = least(wide(r[10]), 64);
+    let len = least(base_numbers::u64_of_byte(r[10]), 64);
     let time = block_layout::read_number(&r[1..9]);
     let rows = block_layout::read_number(&r[80..88]) as usize;
     let answer = archive_file::append_at(buffer, rows, &r[11..11 + len], time, r[9] != 0);
@@ -234,7 +234,7 @@ fn row(buffer: &[u8], index: u64) {
 
 fn put_row(found: RowAt) {
     let bytes = found.bytes;
-    let len = least(wide(found.len), 21);
+    let len = least(base_numbers::u64_of_byte(found.len), 21);
     put_number(found.time);
     put_number(bit(found.loose));
     test_io::text(b" ");
@@ -274,7 +274,7 @@ fn scan(buffer: &[u8], blocks: u64)
         let end = smaller(at + step, buffer.len());
         let fed = s.feed(&buffer[at..end]);
         let answer = fed.answer;
-        if let Taken::Refused(why) = answer {
+        if let Outcome::Refused(why) = answer {
             put_three(base_refusal::number(why), 0, 0);
             return;
         }
@@ -308,14 +308,11 @@ fn salvage(buffer: &[u8], out: &mut [u8], list: &mut [u64], r: &[u8])
     let done = archive_repack::salvage(buffer, &mut out[0..end], &mut list[0..len]);
     let answer = done.answer;
     test_io::text(b"SALVAGE ");
-    put_three(taken_number(answer), done.dropped, done.rows);
-}
-
-fn taken_number(answer: Taken) -> u8 {
-    match answer {
-        Taken::Done => 0,
-        Taken::Refused(why) => base_refusal::number(why),
-    }
+    put_three(
+        base_refusal::outcome_number(answer),
+        done.dropped,
+        done.rows,
+    );
 }
 
 fn fill(out: &mut [u8]) {
@@ -353,7 +350,7 @@ fn remove(buffer: &mut [u8], r: &[u8])
 {
     let mut identities = [0u32; IDENTITIES];
     read_identities(&mut identities, r);
-    let count = least(wide(r[1]), IDENTITIES);
+    let count = least(base_numbers::u64_of_byte(r[1]), IDENTITIES);
     let answer = archive_repack::remove(buffer, &identities[0..count]);
     test_io::text(b"REMOVE ");
     match answer {
@@ -385,19 +382,19 @@ fn cut(buffer: &mut [u8], r: &[u8])
     let answer = archive_cut::cut(buffer, rows);
     test_io::text(b"CUT ");
     match answer {
-        Outcome::Done => put_three(0, 0, rows),
-        Outcome::Damaged(k) => put_three(12, k, 0),
-        Outcome::Refused(why) => put_three(base_refusal::number(why), 0, 0),
+        ArchiveOutcome::Done => put_three(0, 0, rows),
+        ArchiveOutcome::Damaged(k) => put_three(12, k, 0),
+        ArchiveOutcome::Refused(why) => put_three(base_refusal::number(why), 0, 0),
     }
 }
 
 // ---- what is printed
 
-pub(crate) fn put_outcome(answer: Outcome) {
+pub(crate) fn put_outcome(answer: ArchiveOutcome) {
     match answer {
-        Outcome::Done => test_io::text(b"0 0"),
-        Outcome::Damaged(k) => put_two(12, k),
-        Outcome::Refused(why) => put_two(base_refusal::number(why), 0),
+        ArchiveOutcome::Done => test_io::text(b"0 0"),
+        ArchiveOutcome::Damaged(k) => put_two(12, k),
+        ArchiveOutcome::Refused(why) => put_two(base_refusal::number(why), 0),
     }
 }
 
@@ -452,8 +449,4 @@ fn piece(blocks: u64) -> usize
         return 1;
     }
     n
-}
-
-fn wide(x: u8) -> u64 {
-    x as u64
 }

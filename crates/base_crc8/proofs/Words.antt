@@ -17,8 +17,8 @@ use lib.Seq.{length-take-le, take-all, take-take, getD-drop}
 use lib.Pow.{pow-pos, pow-mono, pow-add, shl-lt, shr-lt, shr-shr, high, low}
 use Rattle.base_lists.proofs.Table.{at}
 use Rattle.base_crc8.specs.Crc8.{remainderOf, stepOf, crcFrom, crcOf}
-use Rattle.base_crc8.specs.Words.{AreBytes, powerOf, valueOf, shl}
-use Rattle.base_crc8.specs.Words.{joinOf, foldedOf, halvedOf, shorterOf, moreOf, wordRemainder}
+use Rattle.base_crc8.specs.Words.{EightBits, powerOf, valueOf, shl}
+use Rattle.base_crc8.specs.Words.{joinWords, foldedOf, halvedOf, shorterOf, moreOf, wordRemainder}
 use Rattle.base_crc8.proofs.Linear.{xor-assoc, xor-middle, shift, remainder-xor}
 
 shl-xor : (k a b : ℕ) → shl k (bitXor a b) ≡ bitXor (shl k a) (shl k b)
@@ -32,8 +32,8 @@ four-xor a b c d e f g h =
     ap₂ bitXor (xor-middle a b c d) (xor-middle e f g h)
     ∙ xor-middle (bitXor a c) (bitXor b d) (bitXor e g) (bitXor f h)
 
-join-xor : (a b v w : ℕ) → joinOf (bitXor a b) (bitXor v w) ≡ bitXor (joinOf a v) (joinOf b w)
-unfolding joinOf
+join-xor : (a b v w : ℕ) → joinWords (bitXor a b) (bitXor v w) ≡ bitXor (joinWords a v) (joinWords b w)
+unfolding joinWords
 join-xor a b v w =
     ap₂ bitXor (ap₂ bitXor (shl-xor 1 a b) (shl-xor 2 a b)) (ap (λ (x : ℕ). bitXor x (bitXor v w)) (shl-xor 4 a b))
     ∙ four-xor (shl 1 a) (shl 1 b) (shl 2 a) (shl 2 b) (shl 4 a) (shl 4 b) v w
@@ -42,13 +42,13 @@ folded-xor : (g h k l : ℕ) → foldedOf (bitXor g h) (bitXor k l) ≡ bitXor (
 unfolding foldedOf
 folded-xor g h k l =
     let one =
-    ap₂ joinOf (xor-shr g h 32) (xor-mod g h 32)
+    ap₂ joinWords (xor-shr g h 32) (xor-mod g h 32)
     ∙ join-xor (g / 2 ^ 32) (h / 2 ^ 32) (g % 2 ^ 32) (h % 2 ^ 32) in
-    let g1 = joinOf (g / 2 ^ 32) (g % 2 ^ 32) in
-    let h1 = joinOf (h / 2 ^ 32) (h % 2 ^ 32) in
-    let two = ap₂ joinOf one (xor-shr k l 32) ∙ join-xor g1 h1 (k / 2 ^ 32) (l / 2 ^ 32) in
-    ap₂ joinOf two (xor-mod k l 32)
-    ∙ join-xor (joinOf g1 (k / 2 ^ 32)) (joinOf h1 (l / 2 ^ 32)) (k % 2 ^ 32) (l % 2 ^ 32)
+    let g1 = joinWords (g / 2 ^ 32) (g % 2 ^ 32) in
+    let h1 = joinWords (h / 2 ^ 32) (h % 2 ^ 32) in
+    let two = ap₂ joinWords one (xor-shr k l 32) ∙ join-xor g1 h1 (k / 2 ^ 32) (l / 2 ^ 32) in
+    ap₂ joinWords two (xor-mod k l 32)
+    ∙ join-xor (joinWords g1 (k / 2 ^ 32)) (joinWords h1 (l / 2 ^ 32)) (k % 2 ^ 32) (l % 2 ^ 32)
 
 halved-xor : (u v : ℕ) → halvedOf (bitXor u v) ≡ bitXor (halvedOf u) (halvedOf v)
 unfolding halvedOf
@@ -79,10 +79,10 @@ more-xor u v =
 word-xor : (u v : ℕ) → wordRemainder (bitXor u v) ≡ bitXor (wordRemainder u) (wordRemainder v)
 unfolding wordRemainder
 word-xor u v =
-    let a = joinOf (u / 2 ^ 32) (u % 2 ^ 32) in
-    let b = joinOf (v / 2 ^ 32) (v % 2 ^ 32) in
+    let a = joinWords (u / 2 ^ 32) (u % 2 ^ 32) in
+    let b = joinWords (v / 2 ^ 32) (v % 2 ^ 32) in
     let j =
-    ap₂ joinOf (xor-shr u v 32) (xor-mod u v 32)
+    ap₂ joinWords (xor-shr u v 32) (xor-mod u v 32)
     ∙ join-xor (u / 2 ^ 32) (v / 2 ^ 32) (u % 2 ^ 32) (v % 2 ^ 32) in
     let h = ap halvedOf j ∙ halved-xor a b in
     let s = ap shorterOf h ∙ shorter-xor (halvedOf a) (halvedOf b) in
@@ -114,7 +114,7 @@ abbrev isRight : ℕ → Bool
 isRight t = eqb (powerOf (suc (t / 8)) (2 ^ (t % 8))) (total (2 ^ (t % 8) * 2 ^ (8 * (t / 8))))
 
 tested : (t : ℕ) → t < 128 → T (isRight t)
-unfolding powerOf remainderOf joinOf foldedOf halvedOf shorterOf moreOf wordRemainder
+unfolding powerOf remainderOf joinWords foldedOf halvedOf shorterOf moreOf wordRemainder
 tested = at {A = ℕ} (λ t x. isRight t) 0 (replicate 128 0) tt
 
 right-at : (m i : ℕ) → m < 16 → i < 8 → powerOf (suc m) (2 ^ i) ≡ total (2 ^ i * 2 ^ (8 * m))
@@ -171,7 +171,7 @@ crc-linear c (b ∷ bs) =
     ∙ xor-assoc (powerOf (suc n) c) (powerOf n (remainderOf b)) (crcFrom 0 bs)
     ∙ ap (bitXor (powerOf (suc n) c)) (sym (crc-linear (stepOf 0 b) bs))
 
-pub value-lt : (bs : List ℕ) → AreBytes bs → valueOf bs < 2 ^ (8 * length bs)
+pub value-lt : (bs : List ℕ) → EightBits bs → valueOf bs < 2 ^ (8 * length bs)
 unfolding valueOf
 value-lt [] h = omega arith
 value-lt (b ∷ bs) h =
@@ -188,7 +188,7 @@ first-step : (m b : ℕ) → powerOf m (stepOf 0 b) ≡ powerOf (suc m) b
 unfolding stepOf powerOf
 first-step m b = ap (λ (x : ℕ). powerOf m (remainderOf x)) (xor-zero-l b)
 
-pub crc-value : (bs : List ℕ) → AreBytes bs → length bs ≤ 16 → crcFrom 0 bs ≡ total (valueOf bs)
+pub crc-value : (bs : List ℕ) → EightBits bs → length bs ≤ 16 → crcFrom 0 bs ≡ total (valueOf bs)
 unfolding valueOf
 crc-value [] h k = sym (of-zero total total-xor)
 crc-value (b ∷ bs) h k =
@@ -216,16 +216,16 @@ value-append (x ∷ xs) ys =
     ∙ sym (add-assoc (x * p * q) (valueOf xs * q) (valueOf ys))
     ∙ ap (λ (y : ℕ). y + valueOf ys) (sym (add-mul (x * p) (valueOf xs) q))
 
-bytes-drop : (l : ℕ) (zs : List ℕ) → AreBytes zs → AreBytes (drop l zs)
+bytes-drop : (l : ℕ) (zs : List ℕ) → EightBits zs → EightBits (drop l zs)
 bytes-drop l zs h i = subst (λ (x : ℕ). x < 256) (sym (getD-drop l zs i 0)) (h (l + i))
 
-bytes-take : (n : ℕ) (zs : List ℕ) → AreBytes zs → AreBytes (take n zs)
+bytes-take : (n : ℕ) (zs : List ℕ) → EightBits zs → EightBits (take n zs)
 bytes-take zero zs h i = omega arith
 bytes-take (suc n) [] h i = omega arith
 bytes-take (suc n) (z ∷ zs) h zero = h 0
 bytes-take (suc n) (z ∷ zs) h (suc i) = bytes-take n zs (λ j. h (suc j)) i
 
-module _ (l : ℕ) (zs : List ℕ) (h : AreBytes zs) where
+module _ (l : ℕ) (zs : List ℕ) (h : EightBits zs) where
   whole : valueOf zs ≡ valueOf (take l zs) * 2 ^ (8 * length (drop l zs)) + valueOf (drop l zs)
   whole = ap valueOf (sym (take-append-drop l zs)) ∙ value-append (take l zs) (drop l zs)
 
@@ -243,7 +243,7 @@ module _ (l : ℕ) (zs : List ℕ) (h : AreBytes zs) where
       ∙ low (valueOf (take l zs)) (8 * length (drop l zs)) (value-lt (drop l zs) (bytes-drop l zs h))
 
 -- the two words that `crc8` reads, for `l` bytes before the last eight
-pub crc-two : (bs : List ℕ) (l : ℕ) → AreBytes bs → length bs ≡ l + 8 → l ≤ 8
+pub crc-two : (bs : List ℕ) (l : ℕ) → EightBits bs → length bs ≡ l + 8 → l ≤ 8
     → wordRemainder
     (foldedOf (valueOf (take 8 bs) / 2 ^ (32 - 4 * l) / 2 ^ (32 - 4 * l)) (valueOf (take 8 (drop l bs))))
     ≡ crcOf bs

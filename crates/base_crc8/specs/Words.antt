@@ -12,8 +12,8 @@ powerOf zero b = b
 powerOf (suc n) b = powerOf n (remainderOf b)
 
 -- each element is below 256
-abbrev pub AreBytes : List ℕ → Type 0
-AreBytes bs = (i : ℕ) → getD bs i 0 < 256
+abbrev pub EightBits : List ℕ → Type 0
+EightBits bs = (i : ℕ) → getD bs i 0 < 256
 
 -- bytes as a number, the first byte highest
 unfoldable pub valueOf : List ℕ → ℕ
@@ -25,13 +25,13 @@ abbrev pub shl : ℕ → ℕ → ℕ
 shl k v = v * 2 ^ k % 2 ^ 64
 
 -- a times x^32, plus w: the remainder of x^32 is x^4 + x^2 + x
-unfoldable pub joinOf : ℕ → ℕ → ℕ
-joinOf a w = bitXor (bitXor (shl 1 a) (shl 2 a)) (bitXor (shl 4 a) w)
+unfoldable pub joinWords : ℕ → ℕ → ℕ
+joinWords a w = bitXor (bitXor (shl 1 a) (shl 2 a)) (bitXor (shl 4 a) w)
 
 -- two words reduced to one with the same remainder
 unfoldable pub foldedOf : ℕ → ℕ → ℕ
 foldedOf high low =
-    joinOf (joinOf (joinOf (high / 2 ^ 32) (high % 2 ^ 32)) (low / 2 ^ 32)) (low % 2 ^ 32)
+    joinWords (joinWords (joinWords (high / 2 ^ 32) (high % 2 ^ 32)) (low / 2 ^ 32)) (low % 2 ^ 32)
 
 -- a word reduced with the remainder of x^16, which is x^4 + x^2 + 1
 unfoldable pub halvedOf : ℕ → ℕ
@@ -50,4 +50,4 @@ moreOf v = bitXor (bitXor v (shl 1 v)) (shl 2 v)
 -- the remainder of a word times x^8
 unfoldable pub wordRemainder : ℕ → ℕ
 wordRemainder v =
-    shorterOf (moreOf (shorterOf (shorterOf (halvedOf (joinOf (v / 2 ^ 32) (v % 2 ^ 32)))))) % 2 ^ 8
+    shorterOf (moreOf (shorterOf (shorterOf (halvedOf (joinWords (v / 2 ^ 32) (v % 2 ^ 32)))))) % 2 ^ 8

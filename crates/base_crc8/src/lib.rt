@@ -4,7 +4,7 @@ ghost use mathlib.Core.Bool.{true};
 ghost use Prim.Native.Nat.{_+_, _-_, _*_, _/_, _^_, _<_, _≤_};
 ghost use lib.ListN.{length, take, drop};
 ghost use Rattle.base_crc8.specs.Crc8.{isTable, stepOf, crcOf};
-ghost use Rattle.base_crc8.specs.Words.{AreBytes, valueOf, joinOf, foldedOf, halvedOf, shorterOf, wordRemainder};
+ghost use Rattle.base_crc8.specs.Words.{EightBits, valueOf, joinWords, foldedOf, halvedOf, shorterOf, wordRemainder};
 
 // The remainder of each byte times x^8.
 const TABLE: [u8; 256] = [
@@ -303,7 +303,7 @@ fn folded(high: u64, low: u64) -> u64
 }
 
 fn join(a: u64, w: u64) -> u64
-    ensures { λ r. ⌜ r ≡ joinOf a w ⌝ }
+    ensures { λ r. ⌜ r ≡ joinWords a w ⌝ }
 {
     ((a << 1) ^ (a << 2)) ^ ((a << 4) ^ w)
 }
@@ -336,26 +336,20 @@ fn shorter(v: u64) -> u64
 // Eight bytes as a number, the first byte highest.
 fn word(b: &[u8], from: usize) -> u64
     requires { ⌜ from + 8 ≤ length (now b) ⌝ }
-    ensures { λ r. ⌜ (r ≡ valueOf (take 8 (drop from (now (b .entry))))) × AreBytes (now (b .entry)) ⌝ }
+    ensures { λ r. ⌜ (r ≡ valueOf (take 8 (drop from (now (b .entry))))) × EightBits (now (b .entry)) ⌝ }
 {
     quad(b, from) * 4_294_967_296 + quad(b, from + 4)
 }
 
 fn quad(b: &[u8], from: usize) -> u64
     requires { ⌜ from + 4 ≤ length (now b) ⌝ }
-    ensures { λ r. ⌜ (r ≡ valueOf (take 4 (drop from (now (b .entry))))) × (r < 2 ^ 32) × AreBytes (now (b .entry)) ⌝ }
+    ensures { λ r. ⌜ (r ≡ valueOf (take 4 (drop from (now (b .entry))))) × (r < 2 ^ 32) × EightBits (now (b .entry)) ⌝ }
 {
-    let b0 = wide(b[from]);
-    let b1 = wide(b[from + 1]);
-    let b2 = wide(b[from + 2]);
-    let b3 = wide(b[from + 3]);
+    let b0 = base_numbers::u64_of_byte(b[from]);
+    let b1 = base_numbers::u64_of_byte(b[from + 1]);
+    let b2 = base_numbers::u64_of_byte(b[from + 2]);
+    let b3 = base_numbers::u64_of_byte(b[from + 3]);
     b0 * 16_777_216 + (b1 * 65_536 + (b2 * 256 + b3))
-}
-
-fn wide(b: u8) -> u64
-    ensures { λ r. ⌜ (r ≡ b) × (r < 256) ⌝ }
-{
-    b as u64
 }
 
 // The CRC, one byte after the other. The table is named only once here, because a constant array is built again at each place that names it.

@@ -2,6 +2,8 @@
 use Prim.Native.Nat.{ℕ}
 use Rattle.base_refusal.specs.declared.Refusal.{Refusal}
 use Rattle.base_refusal.specs.declared.Refusal.the-variants.{Length, Sum, Nested, NotAddressed, TooLong, ShortOutput, Late, Full, NoPlan, Argument, NotAccepted, Mismatch, Crc, ReservedAddress, Misfit, Size, Transmitters, Unlawful, Overlap}
+use Rattle.base_refusal.specs.declared.Outcome.{Outcome}
+use Rattle.base_refusal.specs.declared.Outcome.the-variants.{Done, Refused}
 
 -- the number of a refusal
 abbrev pub numberOf : Refusal → ℕ
@@ -24,3 +26,8 @@ numberOf Size = 16
 numberOf Transmitters = 17
 numberOf Unlawful = 18
 numberOf Overlap = 19
+
+-- 0 says done; a refusal has its own number
+abbrev pub outcomeNumber : Outcome → ℕ
+outcomeNumber Done = 0
+outcomeNumber (Refused why) = numberOf why

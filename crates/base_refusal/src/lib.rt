@@ -1,6 +1,6 @@
 // Why a call is refused, and the number that a caller sees (document 01, "Numbers a caller sees"). 0 means no refusal.
 ghost use mathlib.Core.Path.{_≡_};
-ghost use Rattle.base_refusal.specs.Number.{numberOf};
+ghost use Rattle.base_refusal.specs.Number.{numberOf, outcomeNumber};
 
 pub enum Refusal {
     // 1: the length is wrong.
@@ -67,5 +67,21 @@ pub fn number(r: Refusal) -> u8
         Refusal::Transmitters => 17,
         Refusal::Unlawful => 18,
         Refusal::Overlap => 19,
+    }
+}
+
+// Whether a call was done, or why it was refused.
+pub enum Outcome {
+    Done,
+    Refused(Refusal),
+}
+
+// The number of an outcome: 0 where the call was done.
+pub fn outcome_number(outcome: Outcome) -> u8
+    ensures { λ n. ⌜ n ≡ outcomeNumber outcome ⌝ }
+{
+    match outcome {
+        Outcome::Done => 0,
+        Outcome::Refused(why) => number(why),
     }
 }

@@ -12,7 +12,7 @@ use Rattle.base_buffers.specs.Buffer.{resized}
 use Rattle.block_layout.specs.Cell.{cellCapacity, cellField}
 use Rattle.archive_model.specs.Append.{Opening, Appended, refusedAppend, cellAt, rowAtOf}
 use Rattle.archive_model.proofs.Reading.{row-field}
-use Rattle.archive_file.specs.Archive.{Shown, rowShown}
+use Rattle.archive_file.specs.Archive.{ShownRow, rowShown}
 use Rattle.archive_repack_model.specs.Repack.{Salvaged, Removed}
 use Rattle.c_layout.specs.Frame.{wrongSize, frameBytes, flagByte}
 use Rattle.c_layout.specs.Lent.{ifMismatch}
@@ -90,13 +90,20 @@ module _ (buffer : List ℕ) (i : ℕ) (old : List ℕ) (was : ℕ) where
 -- what is written of a row that was found
 module _ (buffer : List ℕ) (i flag number len time : ℕ) (xs : List ℕ) (loose : Bool) where
   pub row-are : flag ≡ flagByte loose → rowAtOf buffer i .number ≡ 0
-      → _≡_ {A = Shown} (record { number = number; len = len; bytes = xs; time = time; loose = loose })
+      → _≡_ {A = ShownRow} (record { number = number; len = len; bytes = xs; time = time; loose = loose })
       (rowShown (rowAtOf buffer i) (cellAt i buffer))
       → rowAnswer number ((flag ∷ len ∷ []) ++ resized cellCapacity (take len xs)) time
       ≡ rowAnswer (rowAtOf buffer i .number) (rowBytes (rowAtOf buffer i .row)) (rowAtOf buffer i .row .time)
   unfolding frameBytes rowBytes
   row-are f z e =
-      let l = ap (λ (s : Shown). s .len) e in
-      let b : xs ≡ cellField (cellAt i buffer) = ap (λ (s : Shown). s .bytes) e ∙ (rw z) in
+      let l = ap (λ (s : ShownRow). s .len) e in
+      let b : xs ≡ cellField (cellAt i buffer) = ap (λ (s : ShownRow). s .bytes) e ∙ (rw z) in
       let is : take len xs ≡ rowAtOf buffer i .row .bytes = ap₂ take l b ∙ row-field buffer i z in
-      rw (is, f, ap (λ (s : Shown). s .loose) e, ap (λ (s : Shown). s .number) e, l, ap (λ (s : Shown). s .time) e)
+      rw (
+        is,
+        f,
+        ap (λ (s : ShownRow). s .loose) e,
+        ap (λ (s : ShownRow). s .number) e,
+        l,
+        ap (λ (s : ShownRow). s .time) e,
+      )

@@ -10,13 +10,13 @@ use Rattle.base_buffers.specs.Buffer.{resized}
 use Rattle.base_buffers.proofs.Buffer.{resized-padded, resized-back}
 use Rattle.c_layout.specs.Frame.{frameBytes, flagByte}
 use Rattle.c_archive.specs.Calls.{rowBytes}
-use Rattle.c_archive.specs.Claims.{GivenAgain}
+use Rattle.c_archive.specs.Claims.{RowGivenAgain}
 
 flag-back : (b : Bool) → not (eqb (flagByte b) 0) ≡ b
 flag-back true = refl
 flag-back false = refl
 
-pub given-again : GivenAgain
+pub given-again : RowGivenAgain
 unfolding rowBytes frameBytes
 given-again r v =
     let short = check-facts (r .bytes) (eqb-true (checkOf (r .bytes)) 0 v) .high in

@@ -1,8 +1,7 @@
 // Archives on plain numbers and bytes, as other languages call them.
+use archive_file::ArchiveOutcome;
 use archive_file::Found;
 use archive_file::Opened;
-use archive_file::Outcome;
-use archive_file::Taken;
 use archive_fill::ROW_LENGTH;
 use archive_repack::Removed;
 use base_refusal::Refusal;
@@ -17,7 +16,7 @@ ghost use lib.ListN.{length, take};
 ghost use Rattle.base_buffers.specs.Buffer.{resized};
 ghost use Rattle.block_layout.specs.Cell.{cellCapacity};
 ghost use Rattle.archive_model.specs.Append as calls;
-ghost use Rattle.archive_file.specs.Archive.{appendResult, rowOf, foundNumber, takenNumber};
+ghost use Rattle.archive_file.specs.Archive.{appendResult, rowOf, foundNumber};
 ghost use Rattle.archive_repack_model.specs.Repack as repack;
 ghost use Rattle.archive_repack.specs.Calls.{removeResult};
 ghost use Rattle.archive_cut.specs.Cut.{cutOf, cutBlockOf};
@@ -96,7 +95,7 @@ pub fn put_rows(block: &mut [u8], n: usize, times: &[u64], rows: &[u8], position
 {
     let filled = archive_fill::put_rows(block, n, times, rows);
     let answer = filled.answer;
-    let number = taken_number(answer);
+    let number = base_refusal::outcome_number(answer);
     if !has_place(number) {
         return number;
     }
@@ -166,7 +165,7 @@ pub fn salvage(
 {
     let done = archive_repack::salvage(buffer, out, positions);
     let answer = done.answer;
-    let taken = taken_number(answer);
+    let taken = base_refusal::outcome_number(answer);
     if taken != 0 {
         return taken;
     }
@@ -201,7 +200,7 @@ pub fn cut(buffer: &mut [u8], rows: usize, position: &mut usize) -> u8
 pub fn cut_block(block: &mut [u8], rows: usize) -> u8
     ensures { λ r. ⌜ record { number = r; block = now (block .exit) } ≡ cutBlockOf rows (now (block .entry)) ⌝ }
 {
-    taken_number(archive_cut::cut_block(block, rows))
+    base_refusal::outcome_number(archive_cut::cut_block(block, rows))
 }
 
 // The number of a removal, the number of freed blocks, and the position with 12.
@@ -221,15 +220,15 @@ fn settle_removed(removed: Removed, freed: &mut usize, position: &mut usize) -> 
 }
 
 // The number of an outcome, and the position with 12.
-fn settle(outcome: Outcome, position: &mut usize) -> u8
+fn settle(outcome: ArchiveOutcome, position: &mut usize) -> u8
     ensures { λ r. ⌜ ((buffer : List ℕ)
         → record { number = r; position = now (position .exit); buffer = buffer }
         ≡ appendCall (appendResult outcome buffer) (now (position .entry))) ⌝ }
 {
     match outcome {
-        Outcome::Done => 0,
-        Outcome::Damaged(k) => c_layout::refuse(Refusal::Mismatch, k, position),
-        Outcome::Refused(why) => c_layout::refuse(why, 0, position),
+        ArchiveOutcome::Done => 0,
+        ArchiveOutcome::Damaged(k) => c_layout::refuse(Refusal::Mismatch, k, position),
+        ArchiveOutcome::Refused(why) => c_layout::refuse(why, 0, position),
     }
 }
 
@@ -246,15 +245,5 @@ fn found_number(found: Found) -> u8
     match found {
         Found::Row => 0,
         Found::Refused(why) => base_refusal::number(why),
-    }
-}
-
-// The number of what was taken or refused.
-pub fn taken_number(taken: Taken) -> u8
-    ensures { λ r. ⌜ r ≡ takenNumber taken ⌝ }
-{
-    match taken {
-        Taken::Done => 0,
-        Taken::Refused(why) => base_refusal::number(why),
     }
 }

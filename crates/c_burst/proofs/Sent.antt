@@ -14,7 +14,7 @@ use Rattle.radio_telegram.proofs.Frames.{frame-written}
 use Rattle.collector_model.specs.Answer.{Shown}
 use Rattle.collector_model.specs.View.{Reception, View}
 use Rattle.collector_model.specs.Acceptable.{acceptable}
-use Rattle.collector_model.specs.Step.{Outcome, step}
+use Rattle.collector_model.specs.Step.{StepOutcome, step}
 use Rattle.collector_model.specs.Burst.{replyWith}
 use Rattle.collector_state.specs.Collector.{Columns}
 use Rattle.collector_burst.specs.declared.Reception as burst
@@ -42,11 +42,11 @@ module _ (setting : ℕ) (v : View) (ok : acceptable v ≡ true)
   as-step : admittedWith setting true v r
       ≡ record { reply = replyWith setting (step v r .answer) r; next = step v r .next }
   as-step =
-      ap (λ (o : Outcome). record { reply = replyWith setting (o .answer) r; next = o .next })
+      ap (λ (o : StepOutcome). record { reply = replyWith setting (o .answer) r; next = o .next })
       (admission-fit v r true (sym ok))
 
   pub answered : (a a' : Columns) (bytes : List ℕ)
-      → bytes ≡ part 0 (sizeOf (getD frame 0 0)) (drop 1 frame) → (o : Outcome)
+      → bytes ≡ part 0 (sizeOf (getD frame 0 0)) (drop 1 frame) → (o : StepOutcome)
       → o ≡ admission true v (record { bytes = bytes; time = time })
       → a' ≡ columnsAdmitted true v (record { bytes = bytes; time = time }) a → (len : ℕ) (out : List ℕ)
       → _≡_ {A = Result} (record { number = 0; len = len; output = out })

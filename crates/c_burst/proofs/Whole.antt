@@ -18,7 +18,7 @@ use Rattle.collector_state.specs.declared.Summary.{Summary}
 use Rattle.collector_state.specs.Collector.{Columns, viewIn}
 use Rattle.collector_burst.specs.Records.{columnsAfterAll}
 use Rattle.c_layout.specs.Frame.{wrongSize}
-use Rattle.c_collector.specs.State.{Arrays, arrays, columnsAt, stateAt, summaryIn, numbersOf, numbersIn}
+use Rattle.c_collector.specs.State.{Arrays, arrays, columnsAt, stateAt, summaryIn, numbersOf, summaryNumbers}
 use Rattle.c_collector.proofs.State.{numbers-counted}
 use Rattle.c_burst.specs.Bytes.{receptionsIn, replyLength, replyBytes, isSized}
 use Rattle.c_burst.specs.Calls.{BurstCall, anyPlace, repliesWith, burstCall, Bursts}
@@ -99,7 +99,7 @@ module _ (s : Arrays) (setting : ℕ) (moments records old : List ℕ) where
     pub all-taken : callNumber setting (length moments) room ≡ 0 → (read : Summary)
         → read ≡ summaryIn (s .numbers) → (a : Columns) (next : Summary) (new : List ℕ)
         → Delivered setting (viewIn (columnsAt s) read) (columnsAt s) rs old new (viewIn a next) a
-        → (numbers : List ℕ) → numbers ≡ numbersIn next
+        → (numbers : List ℕ) → numbers ≡ summaryNumbers next
         → Gives 0 (arrays (a .times) (a .lens) (a .bytes) (a .copies) numbers) new
     unfolding shown
     all-taken z read same a next new delivered numbers stored = record {

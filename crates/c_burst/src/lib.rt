@@ -204,16 +204,10 @@ fn telegram_in(frame: &[u8]) -> &[u8]
     requires { ⌜ length (now frame) ≡ frameLength ⌝ }
     ensures { λ r. ⌜ now r ≡ part 0 (sizeOf (getD (now (frame .entry)) 0 0)) (drop 1 (now (frame .entry))) ⌝ }
 {
-    let len = wide(frame[0]);
+    let len = base_numbers::usize_of_byte(frame[0]);
     if Collector::MAX_LEN < len {
         return &frame[1..1];
     }
     let end = 1 + len;
     &frame[1..end]
-}
-
-fn wide(b: u8) -> usize
-    ensures { λ r. ⌜ (r ≡ b) × (r < 256) ⌝ }
-{
-    b as usize
 }

@@ -5,7 +5,7 @@ use mathlib.Core.Path.{_≡_, refl, sym, ap, _∙_}
 use mathlib.Core.Bool.{true, false}
 use mathlib.Core.List.{List}
 use Rattle.base_lists.proofs.Tests.{by-test}
-use Rattle.base_refusal.specs.Number.{numberOf}
+use Rattle.base_refusal.specs.Number.{numberOf, outcomeNumber}
 use Rattle.base_refusal.specs.declared.Refusal.{Refusal}
 use Rattle.base_refusal.specs.declared.Refusal.the-variants.{NotAccepted}
 use Rattle.base_refusal.proofs.Numbers.{refused-number}
@@ -17,9 +17,8 @@ use Rattle.collector_model.proofs.Returns.{restore-unacceptable}
 use Rattle.collector_state.specs.declared.Collector.{Collector}
 use Rattle.collector_state.specs.Collector.{columnsOf, viewOf}
 use Rattle.collector_checkpoint.specs.declared.Restored.{Restored}
-use Rattle.collector_checkpoint.specs.declared.Loaded.the-variants.{Done, Refused}
+use Rattle.base_refusal.specs.declared.Outcome.the-variants.{Done, Refused}
 use Rattle.collector_checkpoint.specs.Checkpoint as image
-use Rattle.collector_checkpoint.specs.Checkpoint.{loadedNumber}
 use Rattle.c_collector.specs.State.{Arrays, columnsAt, stateAt, numbersOf, arraysOf}
 use Rattle.c_collector.proofs.State.{numbers-counted}
 use Rattle.c_checkpoint.specs.Calls.{Restores, restoreResult}
@@ -54,7 +53,7 @@ module _ (s : Arrays) (bytes : List ℕ) where
     result : image.restoreResult r ≡ restoreOf fresh bytes
     result = done .result ∙ ap (λ (v : View). restoreOf v bytes) new
 
-    accepted : loadedNumber (r .answer) ≡ 0 → accepts bytes ≡ true
+    accepted : outcomeNumber (r .answer) ≡ 0 → accepts bytes ≡ true
     accepted z = by-test (accepts bytes) (λ e. e)
         (λ e.
         absurd (refused-number NotAccepted
@@ -65,7 +64,7 @@ module _ (s : Arrays) (bytes : List ℕ) where
     not-accepted why e = by-test (accepts bytes)
         (λ t.
         absurd (refused-number why
-        (ap loadedNumber (sym e)
+        (ap outcomeNumber (sym e)
         ∙ ap (λ (x : RestoreResult). x .number) (result ∙ held fresh (good-acceptable good-fresh) bytes t))))
         (λ t. t)
 
@@ -80,12 +79,12 @@ module _ (s : Arrays) (bytes : List ℕ) where
           ap (restoreResult 0) put ∙ ap (λ (v : View). record { number = 0; next = v }) next
           ∙ sym (held (stateAt s) ok bytes yes);
       counted = λ _. ap (λ (x : Arrays). x .numbers) put ∙ numbers-counted (columnsOf (r .next)) _ ∙ ap numbersOf next;
-      elements = λ _. ap columnsAt put ∙ done .elements (ap loadedNumber e);
+      elements = λ _. ap columnsAt put ∙ done .elements (ap outcomeNumber e);
       stays = λ n. absurd (n refl);
     }
       where
         yes : accepts bytes ≡ true
-        yes = accepted (ap loadedNumber e)
+        yes = accepted (ap outcomeNumber e)
 
         next : viewOf (r .next) ≡ parse bytes
         next = ap (λ (x : RestoreResult). x .next) (result ∙ held fresh (good-acceptable good-fresh) bytes yes)

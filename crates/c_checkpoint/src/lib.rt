@@ -1,14 +1,12 @@
 // The checkpoint of a collector in five lent arrays and its restore, as other languages call them.
+use base_refusal::Outcome;
 use base_refusal::Refusal;
 use c_collector::BYTES;
 use c_collector::CAPACITY;
 use c_collector::NUMBERS;
-use collector_checkpoint::Loaded;
-use collector_checkpoint::Saved;
 use collector_state::Collector;
 ghost use mathlib.Core.Path.{_≡_};
 ghost use Rattle.collector_model.specs.Image.{checkpointOf};
-ghost use Rattle.collector_checkpoint.specs.Checkpoint.{savedNumber};
 ghost use Rattle.c_collector.specs.State.{arrays, stateAt, arraysOf};
 ghost use Rattle.c_checkpoint.specs.Calls.{Restores};
 
@@ -28,7 +26,14 @@ pub fn checkpoint<'a>(
         (now (out .entry)) ⌝ }
 {
     let summary = c_collector::summary_in(numbers);
-    saved_number(collector_checkpoint::checkpoint_at(times, lengths, bytes, copies, summary, out))
+    base_refusal::outcome_number(collector_checkpoint::checkpoint_at(
+        times,
+        lengths,
+        bytes,
+        copies,
+        summary,
+        out,
+    ))
 }
 
 // Restores the state of an image. Refused: 11, and then everything is unchanged.
@@ -52,7 +57,7 @@ pub fn restore(
     }
     let restored = collector_checkpoint::restore(Collector::fresh(), image);
     let answer = restored.answer;
-    if let Loaded::Refused(_) = answer {
+    if let Outcome::Refused(_) = answer {
         return base_refusal::number(Refusal::NotAccepted);
     }
     put_state(restored.next, times, lengths, bytes, copies, numbers);
@@ -81,13 +86,4 @@ fn put_state(
     *bytes = entries;
     *copies = heard;
     c_collector::store(summary, numbers);
-}
-
-fn saved_number(saved: Saved) -> u8
-    ensures { λ r. ⌜ r ≡ savedNumber saved ⌝ }
-{
-    match saved {
-        Saved::Done => 0,
-        Saved::Refused(why) => base_refusal::number(why),
-    }
 }

@@ -21,7 +21,7 @@ use Rattle.c_layout.specs.Frame.{wrongSize, frameLength, flagByte}
 use Rattle.c_codec.specs.Fields.{fieldsLength, fieldsBytes, telegramIn}
 use Rattle.c_layout.specs.Lent.{settled}
 use Rattle.c_layout.proofs.Lent.{done-is, done-not}
-use Rattle.c_codec.specs.Calls.{call, answered, readCall, buildCall, repeatCall, sentBytes}
+use Rattle.c_codec.specs.Calls.{call, answered, readCall, buildCall, repeatCall, sentFrameBytes}
 
 -- ---- sizes
 
@@ -52,7 +52,7 @@ module _ (setting : ℕ) (s old : List ℕ) where
   repeat-other h = rw (ne-eqb (length old) frameLength h)
 
   pub repeat-done : length old ≡ frameLength
-      → answered (repeatResult setting s .number) (sentBytes (repeatResult setting s .sent)) old
+      → answered (repeatResult setting s .number) (sentFrameBytes (repeatResult setting s .sent)) old
       ≡ repeatCall setting s old
   unfolding repeatCall
   repeat-done h = rw (eq-eqb (length old) frameLength h)

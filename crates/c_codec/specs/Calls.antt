@@ -13,23 +13,23 @@ use Rattle.c_layout.specs.Lent.{ifDone, settled}
 use Rattle.c_codec.specs.Fields.{fieldsLength, fieldsBytes, telegramIn}
 
 -- the number, and every byte of the lent values after the call
-pub record Call : Type 0 where
+pub record ReadCall : Type 0 where
   pub number : ℕ
   pub values : List ℕ
 
-abbrev pub call : ℕ → List ℕ → Call
+abbrev pub call : ℕ → List ℕ → ReadCall
 call number values = record { number = number; values = values }
 
 -- the lent slice must have n elements; a slice of another size is unchanged, and the answer is 255
-abbrev pub sized : ℕ → List ℕ → Call → Call
+abbrev pub sized : ℕ → List ℕ → ReadCall → ReadCall
 sized n old done = cond (not (eqb (length old) n)) (call wrongSize old) done
 
 -- the values are written if the number is 0
-abbrev pub answered : ℕ → List ℕ → List ℕ → Call
+abbrev pub answered : ℕ → List ℕ → List ℕ → ReadCall
 answered number values old = call number (ifDone number values old)
 
 -- reads a subtelegram (document 01): the check's number, and the fields
-unfoldable pub readCall : List ℕ → List ℕ → Call
+unfoldable pub readCall : List ℕ → List ℕ → ReadCall
 readCall s old = sized fieldsLength old (answered (readOf s .number) (fieldsBytes (readOf s .telegram)) old)
 
 -- builds a subtelegram from its 26 bytes of fields (document 01)
@@ -39,10 +39,11 @@ buildCall fields was output =
     (settled (buildOf (telegramIn fields) output) was)
 
 -- repeats a telegram (document 02, A7): the number, and the telegram to send
-abbrev pub sentBytes : Frame → List ℕ
-sentBytes f = frameBytes (f .len) (f .bytes)
+abbrev pub sentFrameBytes : Frame → List ℕ
+sentFrameBytes f = frameBytes (f .len) (f .bytes)
 
 -- repeats a telegram into a frame
-unfoldable pub repeatCall : ℕ → List ℕ → List ℕ → Call
+unfoldable pub repeatCall : ℕ → List ℕ → List ℕ → ReadCall
 repeatCall setting s old =
-    sized frameLength old (answered (repeatResult setting s .number) (sentBytes (repeatResult setting s .sent)) old)
+    sized frameLength old
+    (answered (repeatResult setting s .number) (sentFrameBytes (repeatResult setting s .sent)) old)

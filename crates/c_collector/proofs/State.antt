@@ -17,7 +17,7 @@ use Rattle.base_refusal.specs.declared.Refusal.the-variants.{NotAccepted}
 use Rattle.collector_model.specs.Answer.{shownOf, isReceived}
 use Rattle.collector_model.specs.View.{Reception, View}
 use Rattle.collector_model.specs.Acceptable.{acceptable}
-use Rattle.collector_model.specs.Step.{Outcome, step}
+use Rattle.collector_model.specs.Step.{StepOutcome, step}
 use Rattle.collector_model.specs.Heard.{HeardResult, copiesOf}
 use Rattle.collector_state.specs.declared.Summary.{Summary}
 use Rattle.collector_state.specs.declared.merging.Admitted.{Admitted}
@@ -25,10 +25,10 @@ use Rattle.collector_state.specs.Collector.{Columns, viewIn}
 use Rattle.collector_state.specs.Admission.{admittedOf, admission, columnsAdmitted, Admits}
 use Rattle.collector_state.proofs.Arrays.{entries-length}
 use Rattle.collector_state.proofs.Stepping.{admission-fit, columns-fit}
-use Rattle.c_collector.specs.State.{Arrays, arrays, columnsAt, summaryIn, stateAt, totalNumbers, numbersOf, numbersIn}
+use Rattle.c_collector.specs.State.{Arrays, arrays, columnsAt, summaryIn, stateAt, totalNumbers, numbersOf, summaryNumbers}
 use Rattle.c_collector.specs.Calls.{answerNumber, Takes, TakesTold, ToldTakes, TotalsCall, totalsCall, copiesCall}
 
-pub numbers-back : (l : List ℕ) → length l ≡ 8 → numbersIn (summaryIn l) ≡ l
+pub numbers-back : (l : List ℕ) → length l ≡ 8 → summaryNumbers (summaryIn l) ≡ l
 numbers-back [] e = absurd (omega arith)
 numbers-back (a ∷ []) e = absurd (omega arith)
 numbers-back (a ∷ b ∷ []) e = absurd (omega arith)
@@ -40,23 +40,23 @@ numbers-back (a ∷ b ∷ c ∷ d ∷ f ∷ g ∷ h ∷ []) e = absurd (omega ar
 numbers-back (a ∷ b ∷ c ∷ d ∷ f ∷ g ∷ h ∷ i ∷ []) e = refl
 numbers-back (a ∷ b ∷ c ∷ d ∷ f ∷ g ∷ h ∷ i ∷ j ∷ l) e = absurd (omega arith)
 
-pub numbers-counted : (a : Columns) (s : Summary) → numbersIn s ≡ numbersOf (viewIn a s)
+pub numbers-counted : (a : Columns) (s : Summary) → summaryNumbers s ≡ numbersOf (viewIn a s)
 numbers-counted a s = ap (λ (n : ℕ). n ∷ s .latest ∷ totalNumbers (s .totals)) (sym (entries-length a (s .count)))
 
 module _ (s : Arrays) (r : Reception) (fit : Bool) (old : Summary) (a : Columns) (d : Admitted) where
   pub told : length (s .numbers) ≡ 8 → old ≡ summaryIn (s .numbers) → Admits fit (columnsAt s) old r a d
       → (answer : ℕ) → answer ≡ answerNumber (shownOf (d .answer))
-      → (numbers : List ℕ) → numbers ≡ numbersIn (d .summary)
+      → (numbers : List ℕ) → numbers ≡ summaryNumbers (d .summary)
       → TakesTold fit s r answer (arrays (a .times) (a .lens) (a .bytes) (a .copies) numbers)
   told eight read admits answer shown numbers stored = record {
-    answered = shown ∙ ap (λ (o : Outcome). answerNumber (o .answer)) done;
+    answered = shown ∙ ap (λ (o : StepOutcome). answerNumber (o .answer)) done;
     next = ap (λ (l : List ℕ). viewIn a (summaryIn l)) stored ∙ next;
     counted = stored ∙ numbers-counted a (d .summary) ∙ ap numbersOf next;
     elements =
         admits .elements ∙ ap (λ (x : Summary). columnsAdmitted fit (viewIn (columnsAt s) x) r (columnsAt s)) read;
     stays = λ e.
         let k = admits .stays (rw (← done) at e) in
-        let same = stored ∙ ap numbersIn (k .1 ∙ read) ∙ numbers-back (s .numbers) eight in
+        let same = stored ∙ ap summaryNumbers (k .1 ∙ read) ∙ numbers-back (s .numbers) eight in
         λ i. arrays (k .0 i .times) (k .0 i .lens) (k .0 i .bytes) (k .0 i .copies) (same i);
   }
     where
@@ -64,7 +64,7 @@ module _ (s : Arrays) (r : Reception) (fit : Bool) (old : Summary) (a : Columns)
       done = admits .outcome ∙ ap (λ (x : Summary). admission fit (viewIn (columnsAt s) x) r) read
 
       next : viewIn a (d .summary) ≡ admission fit (stateAt s) r .next
-      next = ap (λ (o : Outcome). o .next) done
+      next = ap (λ (o : StepOutcome). o .next) done
 
 -- told rightly, it is the step
 pub taken : (fit : Bool) (s s' : Arrays) (r : Reception) (n : ℕ)
@@ -72,11 +72,11 @@ pub taken : (fit : Bool) (s s' : Arrays) (r : Reception) (n : ℕ)
 taken fit s s' r n tested k =
     let step-is : admission fit (stateAt s) r ≡ step (stateAt s) r = admission-fit _ _ _ tested in
     record {
-      answered = k .answered ∙ ap (λ (o : Outcome). answerNumber (o .answer)) step-is;
-      next = k .next ∙ ap (λ (o : Outcome). o .next) step-is;
-      counted = k .counted ∙ ap (λ (o : Outcome). numbersOf (o .next)) step-is;
+      answered = k .answered ∙ ap (λ (o : StepOutcome). answerNumber (o .answer)) step-is;
+      next = k .next ∙ ap (λ (o : StepOutcome). o .next) step-is;
+      counted = k .counted ∙ ap (λ (o : StepOutcome). numbersOf (o .next)) step-is;
       elements = k .elements ∙ columns-fit _ _ _ _ tested;
-      stays = λ e. k .stays (ap (λ (o : Outcome). isReceived (o .answer)) step-is ∙ e);
+      stays = λ e. k .stays (ap (λ (o : StepOutcome). isReceived (o .answer)) step-is ∙ e);
     }
 
 pub told-takes : ToldTakes

@@ -58,9 +58,9 @@ abbrev pub numbersOf : View → List ℕ
 numbersOf v = length (v .entries) ∷ v .latest ∷ totalNumbers (v .totals)
 
 -- the eight numbers of a summary
-abbrev pub numbersIn : Summary → List ℕ
-numbersIn s = s .count ∷ s .latest ∷ totalNumbers (s .totals)
+abbrev pub summaryNumbers : Summary → List ℕ
+summaryNumbers s = s .count ∷ s .latest ∷ totalNumbers (s .totals)
 
 -- the arrays of a state that is held by value
 abbrev pub arraysOf : Collector → Arrays
-arraysOf c = arrays (c .times) (c .lens) (c .bytes) (c .copies) (numbersIn (c .summary))
+arraysOf c = arrays (c .times) (c .lens) (c .bytes) (c .copies) (summaryNumbers (c .summary))

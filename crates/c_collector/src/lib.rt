@@ -12,7 +12,7 @@ ghost use Prim.Native.Nat.{ℕ};
 ghost use lib.ListN.{length};
 ghost use Rattle.collector_model.specs.Answer.{shownOf, shownNumber};
 ghost use Rattle.collector_model.specs.Acceptable.{acceptable};
-ghost use Rattle.c_collector.specs.State.{arrays, summaryIn, stateAt, numbersIn};
+ghost use Rattle.c_collector.specs.State.{arrays, summaryIn, stateAt, summaryNumbers};
 ghost use Rattle.c_collector.specs.Calls.{kindOf, answerNumber, Takes, TakesTold, Fresh, totalsCall, copiesCall};
 
 // How many telegrams can be open.
@@ -145,7 +145,7 @@ pub fn copies_of<'a>(
     if numbers[0] as usize <= entry {
         return base_refusal::number(Refusal::Argument);
     }
-    *heard = wide(copies[entry]);
+    *heard = base_numbers::u64_of_u16(copies[entry]);
     0
 }
 
@@ -191,7 +191,7 @@ fn read_numbers(numbers: &[u64]) -> Summary
 
 // Writes the eight numbers of a state.
 pub fn store(summary: Summary, numbers: &mut [u64; NUMBERS])
-    ensures { λ _. ⌜ now (numbers .exit) ≡ numbersIn summary ⌝ }
+    ensures { λ _. ⌜ now (numbers .exit) ≡ summaryNumbers summary ⌝ }
 {
     let totals = summary.totals;
     *numbers = [
@@ -235,10 +235,4 @@ pub fn number_of(answer: Answer) -> u8
         Answer::Loose => 0,
         Answer::Refused(why) => base_refusal::number(why),
     }
-}
-
-fn wide(n: u16) -> u64
-    ensures { λ r. ⌜ r ≡ n ⌝ }
-{
-    n as u64
 }

@@ -9,8 +9,8 @@ use Rattle.radio_erp2_model.specs.declared.Telegram.{Telegram}
 use Rattle.radio_erp2_model.specs.Reading.{maxData, maxOptional}
 use Rattle.c_layout.specs.Frame.{flagByte}
 
-abbrev pub headLength : ℕ
-headLength = 11
+abbrev pub fieldsHeadLength : ℕ
+fieldsHeadLength = 11
 
 abbrev pub fieldsLength : ℕ
 fieldsLength = 276

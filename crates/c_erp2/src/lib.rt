@@ -10,7 +10,7 @@ use radio_erp2_model::Telegram;
 ghost use mathlib.Core.Path.{_≡_};
 ghost use Prim.Native.Nat.{_<_};
 ghost use lib.ListN.{length};
-ghost use Rattle.c_erp2.specs.Fields.{headLength, fieldsLength, headBytes, fieldsBytes, telegramIn};
+ghost use Rattle.c_erp2.specs.Fields.{fieldsHeadLength, fieldsLength, headBytes, fieldsBytes, telegramIn};
 ghost use Rattle.c_erp2.specs.Calls.{readCall, buildCall};
 
 // The length of a telegram's fields without its IDs: eleven bytes, data and optional data.
@@ -78,7 +78,7 @@ fn put_fields(out: &mut [u8], t: Telegram)
 }
 
 fn put_head(out: &mut [u8], t: Telegram)
-    requires { ⌜ (length (now out) ≡ headLength) × (t .len < 256) ⌝ }
+    requires { ⌜ (length (now out) ≡ fieldsHeadLength) × (t .len < 256) ⌝ }
     ensures { λ _. ⌜ now (out .exit) ≡ headBytes t ⌝ }
 {
     let extended = c_layout::flag_byte(t.header.extended);

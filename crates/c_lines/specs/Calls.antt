@@ -23,14 +23,14 @@ use Rattle.text_collect.specs.Session.{runningAt}
 use Rattle.text_collect.specs.Stored.{StoredTo}
 
 -- a record of 23 bytes for each time
-abbrev pub isSized : ℕ → ℕ → Bool
-isSized moments rows = eqb rows (23 * moments)
+abbrev pub areRowsSized : ℕ → ℕ → Bool
+areRowsSized moments rows = eqb rows (23 * moments)
 
 -- 11 first, then 255 for a wrong size, then 10 for a setting over 2; 0 if none of these fits
 abbrev pub linesNumber : Arrays → ℕ → List ℕ → List ℕ → ℕ
 linesNumber s setting moments rows =
     cond (not (acceptable (stateAt s))) (numberOf NotAccepted)
-    (cond (not (isSized (length moments) (length rows))) wrongSize
+    (cond (not (areRowsSized (length moments) (length rows))) wrongSize
     (cond (ltb 2 setting) (numberOf Argument)
     0))
 

@@ -14,7 +14,7 @@ use Rattle.c_layout.specs.Frame.{wrongSize}
 use Rattle.c_collector.specs.State.{Arrays, columnsAt, stateAt}
 use Rattle.text_collect.specs.Session.{runningAt}
 use Rattle.text_collect.specs.Heard.{HeardIn}
-use Rattle.c_lines.specs.Calls.{isSized}
+use Rattle.c_lines.specs.Calls.{areRowsSized}
 
 -- a format by its number: 0 text, 1 comma-separated, 2 JSON
 abbrev pub formatOf : ℕ → Format
@@ -24,7 +24,7 @@ formatOf n = cond (eqb n 0) Format.Text (cond (eqb n 1) Format.Csv Format.Json)
 abbrev pub linesAsNumber : Arrays → (setting format : ℕ) → List ℕ → List ℕ → ℕ
 linesAsNumber s setting format moments rows =
     cond (not (acceptable (stateAt s))) (numberOf NotAccepted)
-    (cond (not (isSized (length moments) (length rows))) wrongSize
+    (cond (not (areRowsSized (length moments) (length rows))) wrongSize
     (cond (ltb 2 setting || ltb 2 format) (numberOf Argument)
     0))
 

@@ -15,7 +15,7 @@ ghost use Prim.Native.Nat.{ℕ};
 ghost use lib.ListN.{length};
 ghost use Rattle.collector_model.specs.Exact.{Fits};
 ghost use Rattle.c_collector.specs.State.{arrays, summaryIn, stateAt};
-ghost use Rattle.c_lines.specs.Calls.{isSized, Lines, levelNumber, firstNumber, firstUsed, lineNumber, ReadLine, Skipped};
+ghost use Rattle.c_lines.specs.Calls.{areRowsSized, Lines, levelNumber, firstNumber, firstUsed, lineNumber, ReadLine, Skipped};
 
 // A row without its time: a byte that is not 0 for LOOSE, its length, and 21 bytes.
 const ROW_LENGTH: usize = 23;
@@ -100,7 +100,7 @@ pub fn lines(
 
 // Whether there is a record for each time.
 fn is_sized(moments: usize, rows: usize) -> bool
-    ensures { λ r. ⌜ r ≡ isSized moments rows ⌝ }
+    ensures { λ r. ⌜ r ≡ areRowsSized moments rows ⌝ }
 {
     if rows / ROW_LENGTH != moments {
         return false;

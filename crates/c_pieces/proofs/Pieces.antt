@@ -24,7 +24,7 @@ use Rattle.archive_model.proofs.Pieces.{blocks-count, pieces-blocks, scan-appen
 use Rattle.archive_file.specs.Archive.{openFound}
 use Rattle.archive_file.proofs.Calls.{open-whole}
 use Rattle.archive_model.proofs.Scans.{scan-facts, scanned-next, blocks-after}
-use Rattle.archive_report_model.specs.Claims.{areBytes}
+use Rattle.base_numbers.specs.Bytes.{areBytes}
 use Rattle.archive_report_model.proofs.Given.{isBlock, scan-given}
 use Rattle.c_pieces.specs.Scan.{stageAt, scanAt, scanNumbers, noBlocks, scanEnd}
 use Rattle.c_pieces.specs.Claims.{ScanBack, scanAll, scanned, PiecesVerified, NumbersAccepted, NumbersGiven}

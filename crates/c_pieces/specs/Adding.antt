@@ -5,7 +5,7 @@ use mathlib.Core.Bool.{cond, not}
 use mathlib.Core.List.{List, [], _∷_, _++_}
 use lib.Dec.{eqb}
 use lib.ListN.{length, getD}
-use Rattle.archive_report_model.specs.Pieces.{Tally, Adding, adding, Feeding, fed}
+use Rattle.archive_report_model.specs.Pieces.{Tally, Adding, adding, PieceAdded, pieceAnswer}
 use Rattle.archive_report.specs.Lines.{linesAt}
 use Rattle.archive_report.specs.Report.{linesFed}
 use Rattle.c_report.specs.Calls.{reportAt}
@@ -32,9 +32,9 @@ abbrev pub addingAt : List ℕ → List ℕ → List ℕ → List ℕ → Adding
 addingAt numbers lines so-far tally = adding (reportAt numbers lines) (tallyAt so-far tally)
 
 -- what a piece does with the two arrays
-pub record Feeds (expected : Feeding) (numbers lines so-far tally : List ℕ) (number : ℕ)
+pub record Feeds (expected : PieceAdded) (numbers lines so-far tally : List ℕ) (number : ℕ)
     (so-far' tally' : List ℕ) : Type 0 where
-  pub result : fed number (addingAt numbers lines so-far' tally') ≡ expected
+  pub result : pieceAnswer number (addingAt numbers lines so-far' tally') ≡ expected
   -- if the number is not 0, every number of both arrays is unchanged
   pub numbersStay : (number ≡ 0 → ⊥) → so-far' ≡ so-far
   pub linesStay : (number ≡ 0 → ⊥) → tally' ≡ tally

@@ -9,7 +9,7 @@ use lib.Dec.{eqb}
 use Rattle.base_lists.specs.Lists.{all}
 use Rattle.archive_model.specs.Buffer.{Scan}
 use Rattle.archive_model.specs.Append.{openOf, isScan}
-use Rattle.archive_report_model.specs.Claims.{areBytes}
+use Rattle.base_numbers.specs.Bytes.{areBytes}
 use Rattle.c_pieces.specs.Scan.{scanAt, scanNumbers, noBlocks, scanCall, scanEnd}
 
 -- Scan back: four numbers hold any scan.

@@ -38,7 +38,8 @@ pub fn feed(
     piece: &[u8],
 ) -> u8
     ensures { λ r. ⌜ Feeds
-        (pieces.feedOf (addingAt (now (numbers .entry)) (now (lines .entry)) (now (adding .entry)) (now (tally .entry)))
+        (pieces.addPieceOf
+        (addingAt (now (numbers .entry)) (now (lines .entry)) (now (adding .entry)) (now (tally .entry)))
         (now (piece .entry)))
         (now (numbers .entry)) (now (lines .entry)) (now (adding .entry)) (now (tally .entry))
         r (now (adding .exit)) (now (tally .exit)) ⌝ }
@@ -46,7 +47,7 @@ pub fn feed(
     let a = adding_in(numbers, lines, adding, tally);
     let fed = a.feed(piece);
     let answer = fed.answer;
-    let number = c_archive::taken_number(answer);
+    let number = base_refusal::outcome_number(answer);
     if number != 0 {
         return number;
     }

@@ -41,7 +41,7 @@ pub fn feed(
     );
     let answer = done.answer;
     *numbers = [done.used as u64, done.next as u64];
-    let taken = c_archive::taken_number(answer);
+    let taken = base_refusal::outcome_number(answer);
     if taken != 0 {
         return taken;
     }
@@ -61,7 +61,7 @@ pub fn end(
 {
     let done = archive_repack::finish(waiting, numbers[0] as usize, numbers[1] as usize, out);
     let answer = done.answer;
-    let number = c_archive::taken_number(answer);
+    let number = base_refusal::outcome_number(answer);
     if number != 0 {
         return number;
     }

@@ -18,7 +18,7 @@ pub fn feed(numbers: &mut [u64; NUMBERS], piece: &[u8]) -> u8
     let s = scan_of(numbers[0], numbers[1], numbers[2], numbers[3]);
     let fed = s.feed(piece);
     let answer = fed.answer;
-    let number = c_archive::taken_number(answer);
+    let number = base_refusal::outcome_number(answer);
     if number != 0 {
         return number;
     }

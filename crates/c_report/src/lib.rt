@@ -1,5 +1,5 @@
 // Reports on plain numbers and bytes, as other languages call them. A report is in two lent arrays: its numbers and its lines.
-use archive_file::Outcome;
+use archive_file::ArchiveOutcome;
 use archive_report::LineAt;
 use archive_report::Looked;
 use archive_report::Report;
@@ -7,7 +7,7 @@ use archive_report::Share;
 use base_refusal::Refusal;
 ghost use mathlib.Core.Path.{_≡_};
 ghost use Rattle.archive_report_model.specs.Report as model;
-ghost use Rattle.archive_report.specs.Report.{reportOf, outcomeNumber, outcomePosition, lookedNumber};
+ghost use Rattle.archive_report.specs.Report.{reportOf, archiveOutcomeNumber, archiveOutcomePosition, lookedNumber};
 ghost use Rattle.c_layout.specs.Lent.{ifMismatch};
 ghost use Rattle.c_report.specs.Calls.{reportAt, reportNumbers, emptyLines, linesWith, Adds, lineCall, shareCall};
 
@@ -121,15 +121,15 @@ pub fn store(r: Report, numbers: &mut [u64; NUMBERS], lines: &mut [u64; LINES])
 }
 
 // The number of an outcome, and the position with 12.
-pub fn settle(outcome: Outcome, position: &mut usize) -> u8
-    ensures { λ r. ⌜ (r ≡ outcomeNumber outcome)
+pub fn settle(outcome: ArchiveOutcome, position: &mut usize) -> u8
+    ensures { λ r. ⌜ (r ≡ archiveOutcomeNumber outcome)
         × (now (position .exit)
-        ≡ ifMismatch (outcomeNumber outcome) (outcomePosition outcome) (now (position .entry))) ⌝ }
+        ≡ ifMismatch (archiveOutcomeNumber outcome) (archiveOutcomePosition outcome) (now (position .entry))) ⌝ }
 {
     match outcome {
-        Outcome::Done => 0,
-        Outcome::Damaged(k) => c_layout::refuse(Refusal::Mismatch, k, position),
-        Outcome::Refused(why) => c_layout::refuse(why, 0, position),
+        ArchiveOutcome::Done => 0,
+        ArchiveOutcome::Damaged(k) => c_layout::refuse(Refusal::Mismatch, k, position),
+        ArchiveOutcome::Refused(why) => c_layout::refuse(why, 0, position),
     }
 }
 

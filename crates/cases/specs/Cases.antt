@@ -56,14 +56,14 @@ planCountBy rule level transmissions duration = length (plans (ruleOf rule level
 -- ---- a telegram received at two times
 
 -- the numbers of KEPT and COPY in this table; they differ from all refusals
-abbrev pub kept : ℕ
-kept = 100
+abbrev pub keptForm : ℕ
+keptForm = 100
 
 abbrev pub copy : ℕ
 copy = 101
 
 abbrev pub shownAs : Shown → ℕ
-shownAs Kept = kept
+shownAs Kept = keptForm
 shownAs Copy = copy
 shownAs Loose = 102
 shownAs (Refused n) = n
@@ -152,11 +152,11 @@ cases =
     ∷ record { got = planCountBy 2 0 3 1_000 ∷ []; want = 351 ∷ [] }
     -- document 01's case of 0 and 100 ms, as document 02, A6, changes it: COPY at level 1; at level 0 KEPT, which is a
     -- COPY only up to 40 ms
-    ∷ record { got = twice oneByteRepeated 100; want = kept ∷ copy ∷ [] }
-    ∷ record { got = twice oneByte 100; want = kept ∷ kept ∷ [] }
-    ∷ record { got = twice oneByte 101; want = kept ∷ kept ∷ [] }
-    ∷ record { got = twice oneByte 40; want = kept ∷ copy ∷ [] }
-    ∷ record { got = twice oneByte 41; want = kept ∷ kept ∷ [] }
+    ∷ record { got = twice oneByteRepeated 100; want = keptForm ∷ copy ∷ [] }
+    ∷ record { got = twice oneByte 100; want = keptForm ∷ keptForm ∷ [] }
+    ∷ record { got = twice oneByte 101; want = keptForm ∷ keptForm ∷ [] }
+    ∷ record { got = twice oneByte 40; want = keptForm ∷ copy ∷ [] }
+    ∷ record { got = twice oneByte 41; want = keptForm ∷ keptForm ∷ [] }
     ∷ record {
       got = shownRead (readOf shortForm) ++ builtAgain shortForm;
       want = (0 ∷ 5 ∷ 0 ∷ 0 ∷ 0 ∷ 0 ∷ 0 ∷ 0 ∷ 0 ∷ 0 ∷ 0 ∷ 0x01020304 ∷ 0xAA ∷ []) ++ shortForm;

@@ -28,8 +28,8 @@ use Rattle.c_pieces.specs.Adding.{tallyNumbers}
 use Rattle.cases.specs.Cases.{Case, fourByteAddressed, oneByte, oneByteRepeated, everyField}
 
 -- a state whose numbers all differ: its clock, its totals, and one open telegram
-abbrev pub sample : View
-sample = record {
+abbrev pub sampleState : View
+sampleState = record {
   latest = 11;
   totals = record { received = 12; kept = 13; copies = 14; loose = 15; damaged = 16; late = 17 };
   entries = record { bytes = oneByte; time = 0x0102; copies = 0x0304 } ∷ [];
@@ -51,12 +51,12 @@ layouts =
       got =
           bytesAt
           (0 ∷ 1 ∷ 15 ∷ 23 ∷ 512 ∷ 513 ∷ 527 ∷ 535 ∷ 1024 ∷ 1039 ∷ 1047 ∷ 1536 ∷ 1551 ∷ 1559 ∷ 2048 ∷ 2063 ∷ 2071 ∷ [])
-          (imageOf sample);
+          (imageOf sampleState);
       want = 0 ∷ 1 ∷ 11 ∷ 12 ∷ 1 ∷ 0 ∷ 13 ∷ 14 ∷ 2 ∷ 15 ∷ 16 ∷ 3 ∷ 17 ∷ 0 ∷ 4 ∷ 0 ∷ 0 ∷ [];
     }
     -- its first entry: the time, the length, the first and the last byte received, a zero after it, and the copies
     ∷ record {
-      got = bytesAt (30 ∷ 31 ∷ 32 ∷ 33 ∷ 40 ∷ 41 ∷ 54 ∷ 55 ∷ 56 ∷ []) (imageOf sample);
+      got = bytesAt (30 ∷ 31 ∷ 32 ∷ 33 ∷ 40 ∷ 41 ∷ 54 ∷ 55 ∷ 56 ∷ []) (imageOf sampleState);
       want = 1 ∷ 2 ∷ 8 ∷ 0xD5 ∷ 0xFE ∷ 0 ∷ 3 ∷ 4 ∷ 0 ∷ [];
     }
     -- mooringeye_fields: rorg, length, addressed, status, destid, txid, data
@@ -85,7 +85,7 @@ layouts =
     }
     -- the eight numbers of mooringeye_collector: open telegrams, latest time, received, kept, copies, loose, damaged,
     -- late
-    ∷ record { got = numbersOf sample; want = 1 ∷ 11 ∷ 12 ∷ 13 ∷ 14 ∷ 15 ∷ 16 ∷ 17 ∷ [] }
+    ∷ record { got = numbersOf sampleState; want = 1 ∷ 11 ∷ 12 ∷ 13 ∷ 14 ∷ 15 ∷ 16 ∷ 17 ∷ [] }
     -- what mooringeye_take answers: MOORINGEYE_KEPT, MOORINGEYE_COPY, MOORINGEYE_LOOSE, a refusal
     ∷ record {
       got = map answerNumber (Kept ∷ Copy ∷ Loose ∷ Refused 13 ∷ []);

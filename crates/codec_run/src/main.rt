@@ -58,8 +58,11 @@ fn answer(r: &[u8])
 fn crc(r: &[u8])
     requires { ⌜ length (now r) ≡ 64 ⌝ }
 {
-    let n = least(wide(r[1]) * 256 + wide(r[2]), LONGEST);
-    let input = repeated(r, n, pattern_length(wide(r[3])));
+    let n = least(
+        base_numbers::usize_of_byte(r[1]) * 256 + base_numbers::usize_of_byte(r[2]),
+        LONGEST,
+    );
+    let input = repeated(r, n, pattern_length(base_numbers::usize_of_byte(r[3])));
     test_io::text(b"CRC ");
     test_io::byte(base_crc8::crc8(&input[0..n]));
 }
@@ -91,7 +94,7 @@ fn pattern_length(len: usize) -> usize
 fn read(r: &[u8])
     requires { ⌜ length (now r) ≡ 64 ⌝ }
 {
-    let n = least(wide(r[2]), MOST);
+    let n = least(base_numbers::usize_of_byte(r[2]), MOST);
     let reading = radio_telegram::fields::read(&r[8..8 + n]);
     let t = reading.telegram;
     let checked = reading.checked;
@@ -114,7 +117,7 @@ fn read(r: &[u8])
 fn output(r: &[u8])
     requires { ⌜ length (now r) ≡ 64 ⌝ }
 {
-    let capacity = least(wide(r[1]), MOST);
+    let capacity = least(base_numbers::usize_of_byte(r[1]), MOST);
     let mut out = [0xEEu8; MOST];
     let operation = r[0];
     match operation {
@@ -130,7 +133,7 @@ fn build(r: &[u8], out: &mut [u8])
     let t = Telegram {
         rorg: r[4],
         payload: payload(&r[16..30]),
-        len: wide(r[2]),
+        len: base_numbers::usize_of_byte(r[2]),
         addressed: r[3] == 1,
         destid: [r[8], r[9], r[10], r[11]],
         txid: [r[12], r[13], r[14], r[15]],
@@ -144,7 +147,7 @@ fn build(r: &[u8], out: &mut [u8])
 fn encapsulate(r: &[u8], out: &mut [u8])
     requires { ⌜ length (now r) ≡ 64 ⌝ }
 {
-    let n = least(wide(r[2]), MOST);
+    let n = least(base_numbers::usize_of_byte(r[2]), MOST);
     let destid = [r[4], r[5], r[6], r[7]];
     let built = radio_telegram::addressing::encapsulate(&r[8..8 + n], destid, out);
     test_io::text(b"ENCAPSULATE ");
@@ -154,7 +157,7 @@ fn encapsulate(r: &[u8], out: &mut [u8])
 fn decapsulate(r: &[u8], out: &mut [u8])
     requires { ⌜ length (now r) ≡ 64 ⌝ }
 {
-    let n = least(wide(r[2]), MOST);
+    let n = least(base_numbers::usize_of_byte(r[2]), MOST);
     let built = radio_telegram::addressing::decapsulate(&r[8..8 + n], out);
     test_io::text(b"DECAPSULATE ");
     written(built, out);
@@ -163,7 +166,7 @@ fn decapsulate(r: &[u8], out: &mut [u8])
 fn repeat(r: &[u8])
     requires { ⌜ length (now r) ≡ 64 ⌝ }
 {
-    let n = least(wide(r[2]), MOST);
+    let n = least(base_numbers::usize_of_byte(r[2]), MOST);
     let repeated = radio_telegram::repeater::repeat(r[1], &r[8..8 + n]);
     let answer = repeated.answer;
     let sent = repeated.sent;
@@ -179,8 +182,8 @@ fn repeat(r: &[u8])
 fn same(r: &[u8])
     requires { ⌜ length (now r) ≡ 64 ⌝ }
 {
-    let n = least(wide(r[2]), MOST);
-    let m = least(wide(r[3]), MOST);
+    let n = least(base_numbers::usize_of_byte(r[2]), MOST);
+    let m = least(base_numbers::usize_of_byte(r[3]), MOST);
     test_io::text(b"SAME");
     flag(radio_erp1::same(&r[8..8 + n], &r[36..36 + m]));
 }
@@ -242,10 +245,4 @@ fn least(x: usize, y: usize) -> usize
     ensures { λ r. ⌜ (r ≤ x) × (r ≤ y) ⌝ }
 {
     if x < y { x } else { y }
-}
-
-fn wide(x: u8) -> usize
-    ensures { λ r. ⌜ r ≤ 255 ⌝ }
-{
-    x as usize
 }

@@ -11,14 +11,14 @@ use Rattle.collector_model.specs.Exact.{Fits}
 use Rattle.collector_state.specs.declared.Collector.{Collector}
 use Rattle.collector_state.specs.Collector.{viewOf}
 use Rattle.collector_state.specs.Admission.{Tested}
-use Rattle.collector_burst.specs.declared.Handed.{Handed}
-use Rattle.collector_burst.specs.declared.Handed.the-variants.{Done, Refused}
+use Rattle.base_refusal.specs.declared.Outcome.{Outcome}
+use Rattle.base_refusal.specs.declared.Outcome.the-variants.{Done, Refused}
 use Rattle.collector_burst.specs.declared.Plan.{Plan}
 use Rattle.collector_model.specs.Burst.{maxBurst, callNumber, burstNumber}
 use Rattle.collector_burst.specs.Private.{Planned}
 
 module _ (c : Collector) (setting n m : ℕ) (fit : Bool) (e : fit ≡ acceptable (viewOf c)) (fits : Fits (viewOf c)) where
-  abbrev plan : ℕ → Handed → Plan
+  abbrev plan : ℕ → Outcome → Plan
   plan count answer = record { fit = fit; count = count; answer = answer }
 
   tested : Tested fit (viewOf c)

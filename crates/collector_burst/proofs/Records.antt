@@ -20,7 +20,7 @@ use Rattle.radio_telegram.specs.Repeater.{repeatOf}
 use Rattle.collector_model.specs.Answer.{Refused, isKept, isAccepted}
 use Rattle.collector_model.specs.View as view
 use Rattle.collector_model.specs.View.{View}
-use Rattle.collector_model.specs.Step.{Outcome, maxCount, tally, sentFor}
+use Rattle.collector_model.specs.Step.{StepOutcome, maxCount, tally, sentFor}
 use Rattle.collector_state.specs.Collector.{Columns, columnsWith}
 use Rattle.collector_state.specs.Admission.{relayedFor, receptionCheck, answerFor, isSafe, numberOn, leftAfter, answerOn, admitted, notAdmitted, admission, columnsAdmitted}
 use Rattle.collector_state.proofs.Sending.{relayed-sent}
@@ -29,7 +29,7 @@ use Rattle.collector_burst.specs.Records.{receptionOf, sizeOf}
 use Rattle.collector_burst.specs.Private.{StepResult, admittedWith}
 
 -- what is left of a refused reception, by its number alone
-abbrev refusedBy : View → ℕ → Outcome
+abbrev refusedBy : View → ℕ → StepOutcome
 refusedBy v n = record {
   answer = Refused n;
   next = record { latest = v .latest; totals = tally (Refused n) (v .totals); entries = v .entries };
@@ -55,7 +55,7 @@ unfolding admission sentFor
 alike setting fit v r s e f =
     rw (wrong-length v r e, wrong-length v s f) (go (fit && isSafe v) (leb maxCount (v .totals .received)))
   where
-    outcome : Bool → Bool → Outcome
+    outcome : Bool → Bool → StepOutcome
     outcome b c =
         cond (not b) (notAdmitted refusal.NotAccepted v)
         (cond c (notAdmitted refusal.Full v) (refusedBy v (numberOf refusal.Length)))
@@ -91,14 +91,14 @@ wrong-stays fit v a r e = rw (wrong-length v r e) (go (fit && isSafe v) (leb max
     go false c = refl
 
 -- what is sent for a reception that was admitted
-pub sent-with : (setting : ℕ) (fit : Bool) (v : View) (r : view.Reception) (o : Outcome) (sent : Frame)
+pub sent-with : (setting : ℕ) (fit : Bool) (v : View) (r : view.Reception) (o : StepOutcome) (sent : Frame)
     → o ≡ admission fit v r
     → sent ≡ frameOf (relayedFor setting (o .answer) (r .bytes))
     → _≡_ {A = StepResult} (record { reply = record { answer = o .answer; sent = sent }; next = o .next })
     (admittedWith setting fit v r)
 sent-with setting fit v r o sent e f =
     ap (λ (x : Frame). record { reply = record { answer = o .answer; sent = x }; next = o .next }) f
-    ∙ ap (λ (x : Outcome).
+    ∙ ap (λ (x : StepOutcome).
     record {
       reply = record { answer = x .answer; sent = frameOf (relayedFor setting (x .answer) (r .bytes)) };
       next = x .next;

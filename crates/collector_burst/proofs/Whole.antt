@@ -10,7 +10,7 @@ use borrow.Author.Tests.{ne-eqb}
 use lib.Seq.{take-length, take-append-seam, drop-append-seam}
 use Rattle.collector_model.specs.View as view
 use Rattle.collector_model.specs.View.{View}
-use Rattle.collector_model.specs.Step.{Outcome, step}
+use Rattle.collector_model.specs.Step.{StepOutcome, step}
 use Rattle.collector_state.specs.declared.Collector.{Collector}
 use Rattle.collector_state.specs.declared.Summary.{Summary}
 use Rattle.collector_state.specs.Collector.{Columns, columnsOf, columnsAfter, viewIn, viewOf}
@@ -23,8 +23,9 @@ use Rattle.collector_burst.specs.declared.Plan.{Plan}
 use Rattle.collector_burst.specs.declared.Within.{Within}
 use Rattle.collector_model.specs.History.{Timely}
 use Rattle.collector_model.specs.Burst.{Replied, replyWith, afterAll, repliesTo, burstNumber, taken}
-use Rattle.collector_burst.specs.Records.{receptionOf, repliedOf, handedNumber, columnsAfterAll, Bursts, WithinOf}
-use Rattle.collector_burst.specs.Private.{afterTested, columnsTested, replies, Delivered, Planned, Finished}
+use Rattle.base_refusal.specs.Number.{outcomeNumber}
+use Rattle.collector_burst.specs.Records.{receptionOf, repliedOf, columnsAfterAll, Bursts, WithinOf}
+use Rattle.collector_burst.specs.Private.{afterTested, columnsTested, replies, Delivered, Planned, BurstFinished}
 
 -- ---- records one by one
 
@@ -33,7 +34,7 @@ after-steps : (fit : Bool) (v : View) (rs : List Reception) → Tested fit v
 unfolding afterTested afterAll
 after-steps fit v [] k t = refl
 after-steps fit v (r ∷ rs) k t =
-    ap (λ (o : Outcome). afterTested fit (o .next) rs) (admission-fit v (receptionOf r) fit (k .said))
+    ap (λ (o : StepOutcome). afterTested fit (o .next) rs) (admission-fit v (receptionOf r) fit (k .said))
     ∙ after-steps fit (step v (receptionOf r) .next) rs (tested-next fit (receptionOf r) k (t .0)) (t .1)
 
 columns-steps : (fit : Bool) (v : View) (rs : List Reception) (a : Columns) → Tested fit v → Timely (map receptionOf rs)
@@ -41,7 +42,7 @@ columns-steps : (fit : Bool) (v : View) (rs : List Reception) (a : Columns) → 
 unfolding columnsTested columnsAfterAll
 columns-steps fit v [] a k t = refl
 columns-steps fit v (r ∷ rs) a k t =
-    ap₂ (λ (o : Outcome) (c : Columns). columnsTested fit (o .next) rs c)
+    ap₂ (λ (o : StepOutcome) (c : Columns). columnsTested fit (o .next) rs c)
     (admission-fit v (receptionOf r) fit (k .said)) (columns-fit v (receptionOf r) fit a (k .said))
     ∙ columns-steps fit (step v (receptionOf r) .next) rs (columnsAfter v (receptionOf r) a)
     (tested-next fit (receptionOf r) k (t .0)) (t .1)
@@ -51,7 +52,7 @@ replies-steps : (setting : ℕ) (fit : Bool) (v : View) (rs : List Reception) �
 unfolding replies repliesTo
 replies-steps setting fit v [] k t = refl
 replies-steps setting fit v (r ∷ rs) k t =
-    ap (λ (o : Outcome). replyWith setting (o .answer) (receptionOf r) ∷ replies setting fit (o .next) rs)
+    ap (λ (o : StepOutcome). replyWith setting (o .answer) (receptionOf r) ∷ replies setting fit (o .next) rs)
     (admission-fit v (receptionOf r) fit (k .said))
     ∙ ap (λ (l : List Replied). replyWith setting (step v (receptionOf r) .answer) (receptionOf r) ∷ l)
     (replies-steps setting fit (step v (receptionOf r) .next) rs (tested-next fit (receptionOf r) k (t .0)) (t .1))
@@ -101,7 +102,7 @@ module _ (c : Collector) (setting : ℕ) (rs : List Reception) (ys : List Reply)
 
   pub whole : {p : Plan} {a : Columns} {s : Summary} {zs : List Reply} (r : Bursted)
       → Planned c setting (length rs) (length ys) p
-      → Delivered setting (p .fit) (columnsOf c) (c .summary) (p .count) rs ys a s zs → Finished a s (p .answer) r
+      → Delivered setting (p .fit) (columnsOf c) (c .summary) (p .count) rs ys a s zs → BurstFinished a s (p .answer) r
       → Bursts c setting rs ys r zs
   unfolding viewOf
   whole {p} {a} {s} {zs} r k d f =
@@ -110,8 +111,8 @@ module _ (c : Collector) (setting : ℕ) (rs : List Reception) (ys : List Reply)
       t : List Reception
       t = take (p .count) rs
 
-      number-is : handedNumber (r .answer) ≡ burstNumber setting v (length given) (length places)
-      number-is = ap handedNumber (f .same) ∙ k .answer ∙ sym same-number
+      number-is : outcomeNumber (r .answer) ≡ burstNumber setting v (length given) (length places)
+      number-is = ap outcomeNumber (f .same) ∙ k .answer ∙ sym same-number
 
       replies-is : map repliedOf zs
           ≡ repliesTo setting v (taken (burstNumber setting v (length given) (length places)) given)
@@ -135,17 +136,17 @@ module _ (c : Collector) (setting : ℕ) (rs : List Reception) (ys : List Reply)
           made ∙ d .state ∙ after-steps (p .fit) v t (k .tested) (d .timely)
           ∙ ap (afterAll v) (front (p .count) (k .count))
 
-      elements : columnsOf (r .next) ≡ columnsAfterAll v (taken (handedNumber (r .answer)) given) (columnsOf c)
+      elements : columnsOf (r .next) ≡ columnsAfterAll v (taken (outcomeNumber (r .answer)) given) (columnsOf c)
       elements =
           ap columnsOf (f .next) ∙ d .elements ∙ columns-steps (p .fit) v t (columnsOf c) (k .tested) (d .timely)
           ∙ ap (λ (l : List view.Reception). columnsAfterAll v l (columnsOf c)) (front (p .count) (k .count))
           ∙ ap (λ (n : ℕ). columnsAfterAll v (taken n given) (columnsOf c)) (sym number-is)
 
       -- a refused burst takes none
-      taken-none : (handedNumber (r .answer) ≡ 0 → ⊥) → p .count ≡ 0
-      taken-none n = k .count ∙ rw (ne-eqb number 0 (λ z. n (ap handedNumber (f .same) ∙ k .answer ∙ z)))
+      taken-none : (outcomeNumber (r .answer) ≡ 0 → ⊥) → p .count ≡ 0
+      taken-none n = k .count ∙ rw (ne-eqb number 0 (λ z. n (ap outcomeNumber (f .same) ∙ k .answer ∙ z)))
 
-      stays : (handedNumber (r .answer) ≡ 0 → ⊥) → r .next ≡ c
+      stays : (outcomeNumber (r .answer) ≡ 0 → ⊥) → r .next ≡ c
       stays n =
           let same = d .none (taken-none n) in
           f .next ∙ (λ i. collectorOf (same .0 i) (same .1 i))

@@ -14,12 +14,13 @@ use Rattle.collector_state.specs.Admission.{collectorOf, admission, columnsAdmi
 use Rattle.collector_burst.specs.declared.Reception.{Reception}
 use Rattle.collector_burst.specs.declared.Reply.{Reply}
 use Rattle.collector_burst.specs.declared.Stepped.{Stepped}
-use Rattle.collector_burst.specs.declared.Handed.{Handed}
+use Rattle.base_refusal.specs.declared.Outcome.{Outcome}
 use Rattle.collector_burst.specs.declared.Bursted.{Bursted}
 use Rattle.collector_burst.specs.declared.Plan.{Plan}
 use Rattle.collector_model.specs.History.{Timely}
 use Rattle.collector_model.specs.Burst.{Replied, replyWith, burstNumber}
-use Rattle.collector_burst.specs.Records.{receptionOf, repliedOf, handedNumber}
+use Rattle.base_refusal.specs.Number.{outcomeNumber}
+use Rattle.collector_burst.specs.Records.{receptionOf, repliedOf}
 
 -- the reply to one reception, and the next state
 pub record StepResult : Type 0 where
@@ -73,9 +74,9 @@ pub record Planned (c : Collector) (setting receptions places : ℕ) (r : Plan) 
   pub count : r .count ≡ cond (eqb (burstNumber setting (viewOf c) receptions places) 0) receptions 0
   pub few : r .count ≤ receptions
   pub placed : r .count ≤ places
-  pub answer : handedNumber (r .answer) ≡ burstNumber setting (viewOf c) receptions places
+  pub answer : outcomeNumber (r .answer) ≡ burstNumber setting (viewOf c) receptions places
 
 -- the next state is made of these parts, and the answer is this one
-pub record Finished (a : Columns) (s : Summary) (answer : Handed) (r : Bursted) : Type 0 where
+pub record BurstFinished (a : Columns) (s : Summary) (answer : Outcome) (r : Bursted) : Type 0 where
   pub next : r .next ≡ collectorOf a s
   pub same : r .answer ≡ answer

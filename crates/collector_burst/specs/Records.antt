@@ -5,7 +5,7 @@ use mathlib.Core.List.{List, [], _∷_, map}
 use Prim.Native.Nat.{ℕ, _+_}
 use lib.Dec.{ltb}
 use lib.ListN.{take, drop}
-use Rattle.base_refusal.specs.Number.{numberOf}
+use Rattle.base_refusal.specs.Number.{outcomeNumber}
 use Rattle.radio_erp1.specs.Subtelegram.{maxLength}
 use Rattle.base_buffers.specs.Buffer.{resized}
 use Rattle.collector_model.specs.Answer.{shownOf}
@@ -16,8 +16,6 @@ use Rattle.collector_state.specs.declared.Collector.{Collector}
 use Rattle.collector_state.specs.Collector.{Columns, columnsOf, columnsAfter, viewOf}
 use Rattle.collector_burst.specs.declared.Reception.{Reception}
 use Rattle.collector_burst.specs.declared.Reply.{Reply}
-use Rattle.collector_burst.specs.declared.Handed.{Handed}
-use Rattle.collector_burst.specs.declared.Handed.the-variants.{Done, Refused}
 use Rattle.collector_burst.specs.declared.Bursted.{Bursted}
 use Rattle.collector_burst.specs.declared.Within.{Within}
 use Rattle.collector_model.specs.Burst.{Replied, maxBurst, BurstResult, taken, burstOf}
@@ -35,14 +33,10 @@ sizeOf len = cond (ltb maxLength len) 0 len
 abbrev pub repliedOf : Reply → Replied
 repliedOf r = record { answer = shownOf (r .answer); sent = r .sent }
 
-abbrev pub handedNumber : Handed → ℕ
-handedNumber Done = 0
-handedNumber (Refused why) = numberOf why
-
 -- the result of a burst with the list of replies after it, as the model names it
 abbrev pub burstedOf : Bursted → List Reply → BurstResult
 burstedOf r replies = record {
-  number = handedNumber (r .answer);
+  number = outcomeNumber (r .answer);
   replies = map repliedOf replies;
   next = viewOf (r .next);
 }
@@ -58,8 +52,8 @@ pub record Bursts (c : Collector) (setting : ℕ) (rs : List Reception) (places 
     (r : Bursted) (after : List Reply) : Type 0 where
   pub result : burstedOf r after ≡ burstOf setting (viewOf c) (map receptionOf rs) (map repliedOf places)
   pub elements : columnsOf (r .next)
-      ≡ columnsAfterAll (viewOf c) (taken (handedNumber (r .answer)) (map receptionOf rs)) (columnsOf c)
-  pub stays : (handedNumber (r .answer) ≡ 0 → ⊥) → r .next ≡ c
+      ≡ columnsAfterAll (viewOf c) (taken (outcomeNumber (r .answer)) (map receptionOf rs)) (columnsOf c)
+  pub stays : (outcomeNumber (r .answer) ≡ 0 → ⊥) → r .next ≡ c
 
 -- the length of a list that is held by value: room for more than 256 receptions, so that 10 can be answered, and for
 -- further entries

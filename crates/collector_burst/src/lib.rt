@@ -1,4 +1,5 @@
 // Receptions that are handed over in one lent list with a repeater setting, and a second list for the replies (document 02, A1 and A7).
+use base_refusal::Outcome;
 use base_refusal::Refusal;
 use collector_model::Answer;
 use collector_state::Collector;
@@ -13,7 +14,7 @@ ghost use lib.ListN.{length};
 ghost use Rattle.radio_erp1.specs.Subtelegram.{maxLength};
 ghost use Rattle.collector_state.specs.Collector.{columns};
 ghost use Rattle.collector_burst.specs.Records.{Bursts, listed, WithinOf, sizeOf};
-ghost use Rattle.collector_burst.specs.Private.{Steps, Delivered, Planned, Finished};
+ghost use Rattle.collector_burst.specs.Private.{Steps, Delivered, Planned, BurstFinished};
 
 // The largest number of receptions in a burst.
 pub const MAX_BURST: usize = 256;
@@ -88,17 +89,11 @@ fn take_record<'a>(
 fn size(len: u8) -> usize
     ensures { λ r. ⌜ (r ≡ sizeOf len) × (r ≤ maxLength) ⌝ }
 {
-    let n = wide(len);
+    let n = base_numbers::usize_of_byte(len);
     if Collector::MAX_LEN < n {
         return 0;
     }
     n
-}
-
-fn wide(b: u8) -> usize
-    ensures { λ r. ⌜ r ≡ b ⌝ }
-{
-    b as usize
 }
 
 // Takes the first `count` receptions one by one, and writes the reply to each at the same index of the second list.
@@ -132,23 +127,17 @@ fn deliver(
     s
 }
 
-// Whether a burst was taken.
-pub enum Handed {
-    Done,
-    Refused(Refusal),
-}
-
 // The next state, and whether the burst was taken.
 pub struct Bursted {
     pub next: Collector,
-    pub answer: Handed,
+    pub answer: Outcome,
 }
 
 // What is done with a burst: the result of the test of the state, how many of its receptions are taken, and the answer.
 pub struct Plan {
     pub fit: bool,
     pub count: usize,
-    pub answer: Handed,
+    pub answer: Outcome,
 }
 
 // Takes the receptions one by one, and writes the reply to each at the same index of the second list; the entries after them are unchanged. A refused
@@ -186,34 +175,34 @@ fn prepare(c: Collector, setting: u8, receptions: usize, places: usize) -> Plan
         return Plan {
             fit: fit,
             count: 0,
-            answer: Handed::Refused(Refusal::NotAccepted),
+            answer: Outcome::Refused(Refusal::NotAccepted),
         };
     }
     if places < receptions {
         return Plan {
             fit: fit,
             count: 0,
-            answer: Handed::Refused(Refusal::ShortOutput),
+            answer: Outcome::Refused(Refusal::ShortOutput),
         };
     }
     if MAX_BURST < receptions {
         return Plan {
             fit: fit,
             count: 0,
-            answer: Handed::Refused(Refusal::Argument),
+            answer: Outcome::Refused(Refusal::Argument),
         };
     }
     if MAX_SETTING < setting {
         return Plan {
             fit: fit,
             count: 0,
-            answer: Handed::Refused(Refusal::Argument),
+            answer: Outcome::Refused(Refusal::Argument),
         };
     }
     Plan {
         fit: fit,
         count: receptions,
-        answer: Handed::Done,
+        answer: Outcome::Done,
     }
 }
 
@@ -223,9 +212,9 @@ fn finish(
     entries: [u8; Collector::CAPACITY * Collector::MAX_LEN],
     copies: [u16; Collector::CAPACITY],
     summary: Summary,
-    answer: Handed,
+    answer: Outcome,
 ) -> Bursted
-    ensures { λ r. ⌜ Finished (columns times lens entries copies) summary answer r ⌝ }
+    ensures { λ r. ⌜ BurstFinished (columns times lens entries copies) summary answer r ⌝ }
 {
     Bursted {
         next: Collector {

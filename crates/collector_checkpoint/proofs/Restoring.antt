@@ -13,14 +13,14 @@ use Rattle.base_lists.specs.Lists.{upFrom}
 use Rattle.base_lists.proofs.Choice.{both}
 use Rattle.base_lists.proofs.Tests.{and-true}
 use Rattle.base_lists.proofs.UpFrom.{length-upFrom}
-use Rattle.base_refusal.specs.Number.{numberOf}
+use Rattle.base_refusal.specs.Number.{numberOf, outcomeNumber}
 use Rattle.base_refusal.specs.declared.Refusal.the-variants.{NotAccepted}
 use Rattle.base_refusal.proofs.Numbers.{refused-number}
 use Rattle.radio_telegram.specs.Repeater.{maxSetting}
 use Rattle.collector_model.specs.View.{View, capacity}
 use Rattle.collector_model.specs.Acceptable.{acceptable}
 use Rattle.collector_model.specs.Image.{RestoreResult, imageLength, settingIn, countIn, entryIn, parse, accepts, restoreOf}
-use Rattle.collector_checkpoint.specs.Checkpoint.{loadedNumber, Restores}
+use Rattle.collector_checkpoint.specs.Checkpoint.{Restores}
 use Rattle.collector_checkpoint.specs.Private.{isImageOf, isReadable, entriesIn}
 use Rattle.collector_checkpoint.specs.declared.Restored.{Restored}
 use Rattle.collector_state.specs.declared.Collector.{Collector}
@@ -87,7 +87,7 @@ module _ (image : List ℕ) where
 
 -- a refusal hands back what was handed in
 pub stayed : (c : Collector) (image : List ℕ) (r : Restored)
-    → (r .next ≡ c) × (loadedNumber (r .answer) ≡ numberOf NotAccepted)
+    → (r .next ≡ c) × (outcomeNumber (r .answer) ≡ numberOf NotAccepted)
     → refusedWith (viewOf c) ≡ restoreOf (viewOf c) image → Restores c image r
 stayed c image r k e = record {
   result = (λ i. record { number = k .1 i; next = viewOf (k .0 i) }) ∙ e;

@@ -26,7 +26,7 @@ use Rattle.collector_model.proofs.Invariant.{entry-valid}
 use Rattle.collector_state.proofs.Accepting.{accepted-few, accepted-each}
 use Rattle.collector_model.proofs.Copies.{noEntry}
 use Rattle.collector_state.specs.Collector.{columnsHolding}
-use Rattle.collector_checkpoint.specs.Private.{cellIn, columnsOver, columnsIn}
+use Rattle.collector_checkpoint.specs.Private.{cellIn, columnsOver, imageColumns}
 
 -- zeros behind a list
 filled : (m k : ℕ) (xs ys : List ℕ) → xs ≡ ys → length ys ≡ k → xs ++ drop k (replicate m 0) ≡ padded m ys
@@ -99,7 +99,7 @@ module _ (image : List ℕ) (ok : acceptable (parse image) ≡ true)
       ∙ ap (λ (k : ℕ). maxLength * k)
       (length-map (parse image .entries) (λ e. padded maxLength (e .bytes)) ∙ said-length)
 
-  pub spelled : columnsIn image ≡ columnsHolding (parse image .entries)
+  pub spelled : imageColumns image ≡ columnsHolding (parse image .entries)
   unfolding columnsOver columnsHolding entryIn flatten
   spelled = λ j. record {
     times = number-said (λ e. e .time) (λ i. cellTime (cellIn image i)) (λ i _. refl) j;

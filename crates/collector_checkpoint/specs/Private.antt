@@ -63,8 +63,8 @@ columnsOver image n a = record {
 }
 
 -- the columns that an image gives, accepted or not: from its cells, with zeros after them
-abbrev pub columnsIn : List ℕ → Columns
-columnsIn image = columnsOver image (countIn image) (columnsHolding [])
+abbrev pub imageColumns : List ℕ → Columns
+imageColumns image = columnsOver image (countIn image) (columnsHolding [])
 
 -- the first n entries are read into columns: the entries, and every element
 pub record Reads (image : List ℕ) (n : ℕ) (a a' : Columns) : Type 0 where
@@ -74,4 +74,4 @@ pub record Reads (image : List ℕ) (n : ℕ) (a a' : Columns) : Type 0 where
 -- the state that an image gives
 pub record Parses (image : List ℕ) (c : Collector) : Type 0 where
   pub state : viewOf c ≡ parse image
-  pub elements : columnsOf c ≡ columnsIn image
+  pub elements : columnsOf c ≡ imageColumns image

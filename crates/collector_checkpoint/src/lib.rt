@@ -1,4 +1,5 @@
 // The checkpoint of a collector and its restore (document 01, "Parked collector").
+use base_refusal::Outcome;
 use base_refusal::Refusal;
 use block_layout::BLOCK_LENGTH;
 use block_layout::CELL_LENGTH;
@@ -14,16 +15,16 @@ ghost use mathlib.Core.List.{_++_, map, flatten};
 ghost use Prim.Native.Nat.{_-_, _*_, _≤_, _<_, min};
 ghost use lib.ListN.{length, drop};
 ghost use Rattle.base_lists.specs.Lists.{padded};
-ghost use Rattle.base_refusal.specs.Number.{numberOf};
+ghost use Rattle.base_refusal.specs.Number.{numberOf, outcomeNumber};
 ghost use Rattle.base_refusal.specs.declared.Refusal.the-variants.{NotAccepted};
 ghost use Rattle.base_buffers.specs.Buffer.{overwritten};
 ghost use Rattle.block_layout.specs.Block.{headerLength, cellsPerBlock, blockLength, blockHeader};
 ghost use Rattle.radio_erp1.specs.Subtelegram.{maxLength};
 ghost use Rattle.collector_model.specs.View.{capacity};
 ghost use Rattle.collector_model.specs.Header.{headerOf};
-ghost use Rattle.collector_model.specs.Image.{imageLength, entryCell, imageWith, blockIn, usedIn, firstIn, secondIn, countIn, totalsIn, checkpointOf};
+ghost use Rattle.collector_model.specs.Image.{imageLength, entryCell, imageWith, blockIn, usedInBlock, firstIn, secondIn, countIn, totalsIn, checkpointOf};
 ghost use Rattle.collector_state.specs.Collector.{columns, entriesAt, viewIn, viewOf};
-ghost use Rattle.collector_checkpoint.specs.Checkpoint.{checkpointResult, loadedNumber, Restores};
+ghost use Rattle.collector_checkpoint.specs.Checkpoint.{checkpointResult, Restores};
 ghost use Rattle.collector_checkpoint.specs.Private.{blockCount, cellsLength, entriesFrom, blockWith, Writable, isImageOf, isReadable, cellIn, Reads, Parses};
 
 // How many blocks an image has.
@@ -37,26 +38,14 @@ const NO_SETTING: u64 = 0;
 // The number of bytes of a block between its header and its CRC.
 const CELLS_LENGTH: usize = BLOCK_LENGTH - 1 - HEADER_LENGTH;
 
-// Whether a checkpoint was written.
-pub enum Saved {
-    Done,
-    Refused(Refusal),
-}
-
-// Whether an image was restored.
-pub enum Loaded {
-    Done,
-    Refused(Refusal),
-}
-
 // The state of an image; with a refusal, the state that was handed in.
 pub struct Restored {
     pub next: Collector,
-    pub answer: Loaded,
+    pub answer: Outcome,
 }
 
 // Writes the image of the state into the first 2,560 bytes, with zero in the setting's place. Refused: 11, then 6, and nothing is written.
-pub fn checkpoint(c: Collector, out: &mut [u8]) -> Saved
+pub fn checkpoint(c: Collector, out: &mut [u8]) -> Outcome
     ensures { λ r. ⌜ checkpointResult r (now (out .exit)) ≡ checkpointOf (viewOf c) (now (out .entry)) ⌝ }
 {
     checkpoint_at(&c.times, &c.lens, &c.bytes, &c.copies, c.summary, out)
@@ -70,20 +59,20 @@ pub fn checkpoint_at<'a>(
     copies: &'a [u16; Collector::CAPACITY],
     summary: Summary,
     out: &'a mut [u8],
-) -> Saved
+) -> Outcome
     ensures { λ r. ⌜ checkpointResult r (now (out .exit))
         ≡ checkpointOf
         (viewIn (columns (now (times .entry)) (now (lens .entry)) (now (bytes .entry)) (now (copies .entry))) summary)
         (now (out .entry)) ⌝ }
 {
     if !acceptable::is_acceptable(times, lens, bytes, summary) {
-        return Saved::Refused(Refusal::NotAccepted);
+        return Outcome::Refused(Refusal::NotAccepted);
     }
     if out.len() < IMAGE_LENGTH {
-        return Saved::Refused(Refusal::ShortOutput);
+        return Outcome::Refused(Refusal::ShortOutput);
     }
     put_image(out, times, lens, bytes, copies, summary, NO_SETTING);
-    Saved::Done
+    Outcome::Done
 }
 
 // Restores the state of an image. Refused with 11: an image that no checkpoint writes, or wrote with 1 or 2 in the setting's place; and a state from
@@ -112,17 +101,17 @@ pub fn restore(c: Collector, image: &[u8]) -> Restored
     }
     Restored {
         next,
-        answer: Loaded::Done,
+        answer: Outcome::Done,
     }
 }
 
 // A refusal: the collector is unchanged.
 fn refused(c: Collector) -> Restored
-    ensures { λ r. ⌜ (r .next ≡ c) × (loadedNumber (r .answer) ≡ numberOf NotAccepted) ⌝ }
+    ensures { λ r. ⌜ (r .next ≡ c) × (outcomeNumber (r .answer) ≡ numberOf NotAccepted) ⌝ }
 {
     Restored {
         next: c,
-        answer: Loaded::Refused(Refusal::NotAccepted),
+        answer: Outcome::Refused(Refusal::NotAccepted),
     }
 }
 
@@ -379,7 +368,7 @@ fn count_in(image: &[u8]) -> usize
 // The number of entries used in block `k`; and its two numbers.
 fn used_in(image: &[u8], k: usize) -> usize
     requires { ⌜ (length (now image) ≡ imageLength) × (k < blockCount) ⌝ }
-    ensures { λ r. ⌜ (r ≡ usedIn k (now (image .entry))) × (r < 256) ⌝ }
+    ensures { λ r. ⌜ (r ≡ usedInBlock k (now (image .entry))) × (r < 256) ⌝ }
 {
     block_layout::byte_at(header_in(image, k), 1) as usize
 }

@@ -23,7 +23,7 @@ use Rattle.collector_model.specs.Acceptable.{isCopyOf, isEntry, mayFollo
 use Rattle.collector_model.specs.Step.{maxCount, credit}
 use Rattle.collector_model.specs.Heard.{copiesIn}
 use Rattle.collector_model.specs.Reference.{Logged, answers, totalsOf, isOpenCopy, keptOf, openAt, isBehind, latestOf, answerTo, logOf, modelView, heardBy}
-use Rattle.collector_model.specs.Copies.{copyAnswers, NumbersAreAnswers, EachCountedOnce, closedOf, HeardIsAnswers, BelowCeiling, AnyNumber}
+use Rattle.collector_model.specs.Copies.{copyAnswers, NumbersAreAnswers, EachCountedOnce, closedCount, HeardIsAnswers, BelowCeiling, AnyNumber}
 use Rattle.collector_model.proofs.Copies.{noEntry, length-credit, credit-at, cap-small}
 use Rattle.collector_model.proofs.Latest.{ordered}
 use Rattle.collector_model.specs.Several.{inTime}
@@ -171,13 +171,13 @@ heard-is-answers past k h =
     let l = keptOf log in
     let opens = openAt (latestOf log) log in
     let long : length (copiesIn opens) ≡ length opens = length-map opens (λ e. e .copies) in
-    let end : opens ≡ drop (closedOf log) l =
+    let end : opens ≡ drop (closedCount log) l =
     keep-end (isOpen (latestOf log)) (open-later (latestOf log)) l (ordered past .order) in
     let few : length opens ≤ length l = length-keep (isOpen (latestOf log)) l in
-    let counts : getD (copiesIn opens) k 0 ≡ copyAnswers (closedOf log + k) log =
+    let counts : getD (copiesIn opens) k 0 ≡ copyAnswers (closedCount log + k) log =
     count-at opens k h ∙ ap (λ (m : List Entry). getD m k noEntry .copies) end
-    ∙ ap (λ (e : Entry). e .copies) (getD-drop (closedOf log) l k noEntry)
-    ∙ sym (count-at l (closedOf log + k) (omega arith)) ∙ counted past .numbers (closedOf log + k) (omega arith)
+    ∙ ap (λ (e : Entry). e .copies) (getD-drop (closedCount log) l k noEntry)
+    ∙ sym (count-at l (closedCount log + k) (omega arith)) ∙ counted past .numbers (closedCount log + k) (omega arith)
     in
     rw (lt-ltb k (length (copiesIn opens)) (omega (arith, long)), counts)
 

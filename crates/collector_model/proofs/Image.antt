@@ -28,7 +28,7 @@ use Rattle.collector_model.proofs.Header.{header-length, header-used, h
 use Rattle.block_layout.proofs.Block.{block-length, block-header, block-cell}
 use Rattle.collector_model.specs.View.{Entry, View, ceiling}
 use Rattle.collector_model.specs.Acceptable.{isEntry, acceptable}
-use Rattle.collector_model.specs.Image.{imageLength, entryCell, entriesOf, imageBlock, blocksOf, imageWith, blockIn, usedIn, firstIn, secondIn, settingIn, countIn, cellEntry, entryIn, totalsIn, parse, accepts}
+use Rattle.collector_model.specs.Image.{imageLength, entryCell, entriesOf, imageBlock, blocksOf, imageWith, blockIn, usedInBlock, firstIn, secondIn, settingIn, countIn, cellEntry, entryIn, totalsIn, parse, accepts}
 use Rattle.collector_model.specs.Exact.{fitsCell, FitsLayout, Exact}
 use Rattle.collector_model.proofs.Check.{valid-length}
 use Rattle.collector_model.proofs.Copies.{noEntry}
@@ -126,7 +126,7 @@ module _ (setting : ℕ) (v : View) where
           ap blockHeader (block-in k low ∙ is)
           ∙ block-header _ _ (header-length k (length (entriesOf k v)) a b) (cells-long k) (cells-few k)
 
-      used-in : usedIn k (imageWith setting v) ≡ min cellsPerBlock (count - cellsPerBlock * k)
+      used-in : usedInBlock k (imageWith setting v) ≡ min cellsPerBlock (count - cellsPerBlock * k)
       used-in = ap headerUsed header-in ∙ header-used k (length (entriesOf k v)) a b ∙ group-length k
 
       first-in : a < 2 ^ 64 → firstIn k (imageWith setting v) ≡ a

@@ -4,7 +4,7 @@ use mathlib.Core.List.{List, [], _∷_, _++_, map}
 use Prim.Native.Nat.{ℕ}
 use lib.ListN.{take, drop}
 use Rattle.collector_model.specs.View.{Reception, View, fresh}
-use Rattle.collector_model.specs.Step.{Outcome, step}
+use Rattle.collector_model.specs.Step.{StepOutcome, step}
 use Rattle.collector_model.specs.Image.{CheckpointResult, RestoreResult, imageLength, imageOf, checkpointOf, restoreOf}
 use Rattle.collector_model.specs.Burst.{BurstResult, burstOf}
 use Rattle.collector_model.specs.Reference.{logOf, pastAfter, modelView}
@@ -59,8 +59,8 @@ module _ {State : Type 0} (view : State → View) where
   left-model past ended e g ok = e
   left-model past (received {r = r} f s t) e g ok =
       left-model (r ∷ past) t
-      (ap (λ (o : Outcome). o .next) f ∙ ap (λ (v : View). step v r .next) e
-      ∙ ap (λ (o : Outcome). o .next) (same-step (logOf past) r g))
+      (ap (λ (o : StepOutcome). o .next) f ∙ ap (λ (v : View). step v r .next) e
+      ∙ ap (λ (o : StepOutcome). o .next) (same-step (logOf past) r g))
       (good-after (logOf past) r g (ok .0)) (ok .1)
   left-model past (saved f t) e g ok = left-model past t e g ok
   left-model past (restored {image = image} f t) e g ok =

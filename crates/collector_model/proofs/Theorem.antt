@@ -14,7 +14,7 @@ use Rattle.base_refusal.specs.declared.Refusal.the-variants.{NotAccepted}
 use Rattle.collector_model.specs.View.{Reception, View, fresh}
 use Rattle.radio_telegram.specs.declared.frame.Frame.{Frame}
 use Rattle.radio_telegram.specs.Repeater.{maxSetting}
-use Rattle.collector_model.specs.Step.{Outcome}
+use Rattle.collector_model.specs.Step.{StepOutcome}
 use Rattle.collector_model.specs.Image.{imageLength, imageOf, accepts, checkpointOf, restoreOf}
 use Rattle.collector_model.specs.Reference.{Logged, totalsOf, answerTo, modelView, savedBy, logOf, pastAfter, repliesBy}
 use Rattle.collector_model.specs.Burst.{Replied, maxBurst, replyWith, afterAll, repliesTo, callNumber, burstNumber, taken, BurstResult, burstOf}
@@ -62,7 +62,7 @@ pub burst-after : (past rs : List Reception) → Good (modelView (logOf past)) �
 unfolding afterAll
 burst-after past [] g t = refl
 burst-after past (r ∷ rs) g t =
-    ap (λ (o : Outcome). afterAll (o .next) rs) (same-step (logOf past) r g)
+    ap (λ (o : StepOutcome). afterAll (o .next) rs) (same-step (logOf past) r g)
     ∙ burst-after (r ∷ past) rs (good-after (logOf past) r g (t .0)) (t .1)
 
 burst-replies : (setting : ℕ) (past rs : List Reception) → Good (modelView (logOf past)) → Timely rs
@@ -70,7 +70,8 @@ burst-replies : (setting : ℕ) (past rs : List Reception) → Good (modelView (
 unfolding repliesTo
 burst-replies setting past [] g t = refl
 burst-replies setting past (r ∷ rs) g t =
-    ap (λ (o : Outcome). replyWith setting (o .answer) r ∷ repliesTo setting (o .next) rs) (same-step (logOf past) r g)
+    ap (λ (o : StepOutcome). replyWith setting (o .answer) r ∷ repliesTo setting (o .next) rs)
+    (same-step (logOf past) r g)
     ∙ ap₂ _∷_
     (ap (λ (f : Frame). record { answer = answerTo (logOf past) r; sent = f })
     (same-sent setting (answerTo (logOf past) r) r))

@@ -37,15 +37,15 @@ abbrev pub EachCountedOnce : Type 0
 EachCountedOnce = (past : List Reception) → sumOf (copiesIn (keptOf (logOf past))) ≡ totalsOf (logOf past) .copies
 
 -- how many of the telegrams ever opened are closed; the open ones are the last of them
-abbrev pub closedOf : List Logged → ℕ
-closedOf log = length (keptOf log) - length (openAt (latestOf log) log)
+abbrev pub closedCount : List Logged → ℕ
+closedCount log = length (keptOf log) - length (openAt (latestOf log) log)
 
 -- for telegram k of the open ones, the answer is the number of COPY answers for it, up to the ceiling
 abbrev pub HeardIsAnswers : Type 0
 HeardIsAnswers =
     (past : List Reception) (k : ℕ) → k < length (openAt (latestOf (logOf past)) (logOf past))
     → heardBy (logOf past) k
-    ≡ record { number = 0; copies = capped (copyAnswers (closedOf (logOf past) + k) (logOf past)) }
+    ≡ record { number = 0; copies = capped (copyAnswers (closedCount (logOf past) + k) (logOf past)) }
 
 -- "with no telegram reaching the ceiling": then nothing is cut off
 abbrev pub BelowCeiling : Type 0

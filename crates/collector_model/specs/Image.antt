@@ -59,8 +59,8 @@ abbrev pub blockIn : ℕ → List ℕ → List ℕ
 blockIn k image = part (blockLength * k) blockLength image
 
 -- the number of entries used in block k
-abbrev pub usedIn : ℕ → List ℕ → ℕ
-usedIn k image = headerUsed (blockHeader (blockIn k image))
+abbrev pub usedInBlock : ℕ → List ℕ → ℕ
+usedInBlock k image = headerUsed (blockHeader (blockIn k image))
 
 -- the first number of block k
 abbrev pub firstIn : ℕ → List ℕ → ℕ
@@ -76,7 +76,8 @@ settingIn image = secondIn 3 image
 
 -- how many entries the five blocks say are used
 abbrev pub countIn : List ℕ → ℕ
-countIn image = usedIn 0 image + usedIn 1 image + usedIn 2 image + usedIn 3 image + usedIn 4 image
+countIn image = usedInBlock 0 image + usedInBlock 1 image + usedInBlock 2 image + usedInBlock 3 image
+    + usedInBlock 4 image
 
 -- an entry; of its number of copies, "any value there accepted"
 abbrev pub cellEntry : List ℕ → Entry

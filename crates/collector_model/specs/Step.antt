@@ -77,12 +77,12 @@ advance v r a = record {
 }
 
 -- the answer, and the next state
-pub record Outcome : Type 0 where
+pub record StepOutcome : Type 0 where
   pub answer : Shown
   pub next : View
 
 -- one reception: its answer, and the state after it
-unfoldable pub step : View → Reception → Outcome
+unfoldable pub step : View → Reception → StepOutcome
 step v r = record { answer = classify v r; next = advance v r (classify v r) }
 
 -- ---- what is sent

@@ -23,7 +23,7 @@ use Rattle.collector_model.specs.declared.Totals.{Totals}
 use Rattle.collector_model.specs.Answer.{Shown, Kept, Copy, Loose, Refused, isKept, isCopy, isAccepted, isReceived, shownOf}
 use Rattle.collector_model.specs.View.{Reception, Entry, View, opened, capacity}
 use Rattle.collector_model.specs.Acceptable.{isSummed}
-use Rattle.collector_model.specs.Step.{Outcome, maxCount, tally, plusIf}
+use Rattle.collector_model.specs.Step.{StepOutcome, maxCount, tally, plusIf}
 use Rattle.collector_model.proofs.Check.{Failed, length-wrong, sum-wrong, crc-wrong, nested, check-failed}
 use Rattle.collector_state.specs.declared.Summary.{Summary}
 use Rattle.collector_state.specs.declared.merging.Admitted.{Admitted}
@@ -133,12 +133,12 @@ module _ (fit : Bool) (a : Columns) (s : Summary) (r : Reception) where
       record { found = w .0; few = leb-true _ _ (u .0); summed = u .1 }
 
   -- the columns by whether the reception was accepted
-  stay-put : (o : Outcome) → o ≡ admission fit (viewIn a s) r
+  stay-put : (o : StepOutcome) → o ≡ admission fit (viewIn a s) r
       → isAccepted (o .answer) ≡ false → a ≡ columnsAdmitted fit (viewIn a s) r a
   unfolding columnsAdmitted
   stay-put o e n = rw (← e, n)
 
-  are-changed : (o : Outcome) → o ≡ admission fit (viewIn a s) r → isAccepted (o .answer) ≡ true
+  are-changed : (o : StepOutcome) → o ≡ admission fit (viewIn a s) r → isAccepted (o .answer) ≡ true
       → columnsWith (answerOn (viewIn a s) r) r (length (viewIn a s .entries)) (leftAfter (viewIn a s) r) a
       ≡ columnsAdmitted fit (viewIn a s) r a
   unfolding columnsAdmitted
@@ -188,8 +188,8 @@ module _ (fit : Bool) (a : Columns) (s : Summary) (r : Reception) where
       record {
         outcome = k ∙ e;
         elements = c ∙ are-changed (admitted (viewIn a s) r) e (is .0);
-        refused = λ f. absurd (false≢true (sym f ∙ ap (λ (o : Outcome). isAccepted (o .answer)) k ∙ is .0));
-        stays = λ f. absurd (false≢true (sym f ∙ ap (λ (o : Outcome). isReceived (o .answer)) k ∙ is .1));
+        refused = λ f. absurd (false≢true (sym f ∙ ap (λ (o : StepOutcome). isAccepted (o .answer)) k ∙ is .0));
+        stays = λ f. absurd (false≢true (sym f ∙ ap (λ (o : StepOutcome). isReceived (o .answer)) k ∙ is .1));
       }
 
   pub not-accepted : fit && (leb (s .count) capacity && isSummed (s .totals)) ≡ false

@@ -17,7 +17,7 @@ use Rattle.base_refusal.specs.declared.Refusal.the-variants.{Full}
 use Rattle.collector_model.specs.Answer.{Kept, Copy, Loose, isAccepted}
 use Rattle.collector_model.specs.View.{Reception, Entry, View, openedBy, capacity, maturity, isOpen, stillOpen}
 use Rattle.collector_model.specs.Acceptable.{isCopyOf, mayFollow, acceptable}
-use Rattle.collector_model.specs.Step.{Outcome, maxCount, isKnown, isCrowded, classify, tally, entriesAfter, advance, step}
+use Rattle.collector_model.specs.Step.{StepOutcome, maxCount, isKnown, isCrowded, classify, tally, entriesAfter, advance, step}
 use Rattle.collector_model.proofs.Returns.{step-unacceptable}
 use Rattle.collector_model.proofs.Invariant.{good-acceptable, good-of, good-advance, classified}
 use Rattle.collector_state.specs.Collector.{Columns, columnsWith, columnsAfter}
@@ -147,7 +147,7 @@ tested-next true {v} r k small =
       fits = record { latest = g .entries .fits; received = g .totals .fits; copies = g .entries .copies };
     }
 tested-next false {v} r k small =
-    let stays : step v r .next ≡ v = sym (ap (λ (o : Outcome). o .next) (step-unacceptable v (sym (k .said)) r)) in
+    let stays : step v r .next ≡ v = sym (ap (λ (o : StepOutcome). o .next) (step-unacceptable v (sym (k .said)) r)) in
     rw stays k
 
 pub told-rightly : ToldRightly

@@ -16,7 +16,7 @@ use Rattle.base_refusal.specs.declared.Refusal.the-variants as refusal
 use Rattle.radio_telegram.specs.Frame.{frameOf}
 use Rattle.radio_telegram.specs.Repeater.{relayOf}
 use Rattle.collector_model.specs.Answer.{Shown, Kept, Copy, Loose, Refused, isKept, isAccepted, isReceived, shownOf}
-use Rattle.collector_model.specs.Step.{Outcome, maxCount, step, tally, credit, sentFor}
+use Rattle.collector_model.specs.Step.{StepOutcome, maxCount, step, tally, credit, sentFor}
 use Rattle.base_refusal.specs.declared.Refusal.{Refusal}
 use Rattle.base_refusal.specs.declared.Refusal.the-variants.{Full, NotAccepted}
 use Rattle.collector_model.specs.Exact.{Fits}
@@ -52,7 +52,7 @@ abbrev pub collectorOf : Columns → Summary → Collector
 collectorOf a s = record { times = a .times; lens = a .lens; bytes = a .bytes; copies = a .copies; summary = s }
 
 -- the answer and the next state
-abbrev pub admittedOf : Columns → Admitted → Outcome
+abbrev pub admittedOf : Columns → Admitted → StepOutcome
 admittedOf a r = record { answer = shownOf (r .answer); next = viewIn a (r .summary) }
 
 -- what a step needs of any state: not more entries than the arrays hold, and totals that add up
@@ -88,7 +88,7 @@ entriesWith Loose r l = l
 entriesWith (Refused n) r l = l
 
 -- the reception is taken: it is answered and counted
-unfoldable pub admitted : View → Reception → Outcome
+unfoldable pub admitted : View → Reception → StepOutcome
 admitted v r = record {
   answer = answerOn v r;
   next = record {
@@ -99,12 +99,12 @@ admitted v r = record {
 }
 
 -- refused: the state is unchanged
-abbrev pub notAdmitted : Refusal → View → Outcome
+abbrev pub notAdmitted : Refusal → View → StepOutcome
 notAdmitted why v = record { answer = Refused (numberOf why); next = v }
 
 -- "11: .. state not accepted; the collector stays as it was"; "8: received is 2^64 - 1"; else the reception is taken. A
 -- state is accepted here if the caller says that it is acceptable, and it is safe.
-unfoldable pub admission : Bool → View → Reception → Outcome
+unfoldable pub admission : Bool → View → Reception → StepOutcome
 admission fit v r =
     cond (not (fit && isSafe v)) (notAdmitted NotAccepted v)
     (cond (leb maxCount (v .totals .received)) (notAdmitted Full v)

@@ -12,7 +12,7 @@ use Rattle.collector_state.specs.declared.Summary.{Summary}
 use mathlib.Core.Path.{_≡_}
 use mathlib.Core.Bool.{Bool, false, cond}
 use Rattle.collector_model.specs.Answer.{Shown, isKept, isCopy, isAccepted, isReceived, shownOf}
-use Rattle.collector_model.specs.Step.{Outcome, step}
+use Rattle.collector_model.specs.Step.{StepOutcome, step}
 use Rattle.collector_state.specs.declared.Taken.{Taken}
 
 -- the arrays of the entries: entry i has element i of each; of the bytes, the 21 from 21 * i on
@@ -111,11 +111,11 @@ columnsAfter v r a =
 -- ---- what `take` gives
 
 -- the answer, and the view of the next state
-abbrev pub outcomeOf : Taken → Outcome
-outcomeOf r = record { answer = shownOf (r .answer); next = viewOf (r .next) }
+abbrev pub stepOutcomeOf : Taken → StepOutcome
+stepOutcomeOf r = record { answer = shownOf (r .answer); next = viewOf (r .next) }
 
 -- the step, with every element of the arrays; with 8 and 11 the state is exactly the one that was handed in
 pub record Takes (c : Collector) (r : Reception) (t : Taken) : Type 0 where
-  pub outcome : outcomeOf t ≡ step (viewOf c) r
+  pub outcome : stepOutcomeOf t ≡ step (viewOf c) r
   pub elements : columnsOf (t .next) ≡ columnsAfter (viewOf c) r (columnsOf c)
   pub stays : isReceived (shownOf (t .answer)) ≡ false → t .next ≡ c

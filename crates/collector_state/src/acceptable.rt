@@ -102,7 +102,7 @@ fn mark_at<'a>(
     requires { ⌜ i < capacity ⌝ }
     ensures { λ r. ⌜ MarkedAs (shownAt (now (lens .entry)) (now (bytes .entry)) i) r ⌝ }
 {
-    let len = entries::wide(lens[i]);
+    let len = base_numbers::usize_of_byte(lens[i]);
     if Collector::MAX_LEN < len {
         return MARKS;
     }
@@ -120,9 +120,9 @@ fn mark(telegram: &[u8]) -> usize
     ensures { λ r. ⌜ (r ≡ markOf (now (telegram .entry))) × (r < marks) ⌝ }
 {
     let n = telegram.len();
-    let last = entries::wide(telegram[n - 3]);
-    let other = entries::wide(telegram[n - 4]);
-    let first = entries::wide(telegram[1]);
+    let last = base_numbers::usize_of_byte(telegram[n - 3]);
+    let other = base_numbers::usize_of_byte(telegram[n - 4]);
+    let first = base_numbers::usize_of_byte(telegram[1]);
     (4 * last + 67 * other + 29 * first) % MARKS
 }
 
@@ -141,7 +141,7 @@ fn is_repeated<'a>(
     if seen == 0 {
         return false;
     }
-    let len = entries::wide(lens[i]);
+    let len = base_numbers::usize_of_byte(lens[i]);
     let telegram = entries::telegram(bytes, i, len);
     entries::find(times, lens, bytes, 0, i, telegram, times[i]) < i
 }

@@ -77,7 +77,7 @@ fn holds<'a>(
     if bytes[at] != received[len - 3] {
         return false;
     }
-    if wide(lens[i]) != len {
+    if base_numbers::usize_of_byte(lens[i]) != len {
         return false;
     }
     let telegram = telegram(bytes, i, len);
@@ -287,10 +287,4 @@ pub(crate) fn since(a: u64, b: u64) -> u64
     ensures { λ r. ⌜ r ≡ a - b ⌝ }
 {
     if b <= a { a - b } else { 0 }
-}
-
-pub(crate) fn wide(b: u8) -> usize
-    ensures { λ r. ⌜ r ≡ b ⌝ }
-{
-    b as usize
 }

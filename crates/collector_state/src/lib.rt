@@ -5,6 +5,7 @@ pub(crate) mod entries;
 pub mod merging;
 
 use acceptable::is_acceptable;
+use base_refusal::Outcome;
 use base_refusal::Refusal;
 use collector_model::Answer;
 use collector_model::Totals;
@@ -37,15 +38,9 @@ pub struct Taken {
     pub answer: Answer,
 }
 
-// Whether a number of copies was answered.
-pub enum Asked {
-    Done,
-    Refused(Refusal),
-}
-
 // How often an open telegram was received again; 0 with a refusal.
 pub struct Heard {
-    pub answer: Asked,
+    pub answer: Outcome,
     pub copies: u16,
 }
 
@@ -130,7 +125,7 @@ impl Collector {
             return not_heard(Refusal::Argument);
         }
         Heard {
-            answer: Asked::Done,
+            answer: Outcome::Done,
             copies: self.copies[entry],
         }
     }
@@ -140,7 +135,7 @@ fn not_heard(why: Refusal) -> Heard
     ensures { λ r. ⌜ heardOf r ≡ record { number = numberOf why; copies = 0 } ⌝ }
 {
     Heard {
-        answer: Asked::Refused(why),
+        answer: Outcome::Refused(why),
         copies: 0,
     }
 }

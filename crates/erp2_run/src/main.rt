@@ -237,7 +237,10 @@ fn data(t: Telegram) {
 
 fn optional(t: Telegram) {
     let bytes = t.optional;
-    let n = least(wide(t.extension.announced), MAX_OPTIONAL);
+    let n = least(
+        base_numbers::usize_of_byte(t.extension.announced),
+        MAX_OPTIONAL,
+    );
     test_io::text(b" ");
     test_io::hex(&bytes[0..n]);
 }
@@ -245,17 +248,11 @@ fn optional(t: Telegram) {
 // ---- numbers
 
 fn pair(high: u8, low: u8) -> usize {
-    wide(high) * 256 + wide(low)
+    base_numbers::usize_of_byte(high) * 256 + base_numbers::usize_of_byte(low)
 }
 
 fn least(x: usize, y: usize) -> usize
     ensures { λ r. ⌜ (r ≤ x) × (r ≤ y) ⌝ }
 {
     if x < y { x } else { y }
-}
-
-fn wide(x: u8) -> usize
-    ensures { λ r. ⌜ r ≤ 255 ⌝ }
-{
-    x as usize
 }

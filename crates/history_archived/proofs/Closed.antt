@@ -37,11 +37,11 @@ use Rattle.history_archived.specs.Closed.{
   LinesCloseOnce,
   LogClosed,
   LinesClosed,
-  closedBy,
-  Answered,
+  closedByCall,
+  AsksClosings,
   CallsClose,
 }
-use Rattle.history_archived.specs.Runs.{Call, usedBy, usedIn}
+use Rattle.history_archived.specs.Runs.{LinesCall, usedBy, usedIn}
 use Rattle.history_archived.proofs.Archived.{over-silent}
 use Rattle.history_archived.proofs.Runs.{gave-as, stays-good, fed-front, chain, given-whole}
 
@@ -124,21 +124,22 @@ lines-close-once ls = rw (past-lines ls []) at (views-closed-once (handedOver ls
 asks : (closed : List ℕ) → 0 < length closed → isAsked closed ≡ true
 asks closed h = rw (ne-eqb (length closed) 0 (λ z. omega arith))
 
-one-call : (setting format : ℕ) (c : Call) → Answered setting format c
+one-call : (setting format : ℕ) (c : LinesCall) → AsksClosings setting format c
     → Drained (lineClosings true) lineLimit (runningAt setting (stateAt (c .before))) (usedBy c)
-    (runningAt setting (stateAt (c .after))) (closedBy c)
+    (runningAt setting (stateAt (c .after))) (closedByCall c)
 one-call setting format c k =
     let f = rw (asks (c .closed) (k .asked)) at (k .lines .taken refl .closes) in
     fed-front (lineClosings true) _ _ _ _ _ _ f
 
 pub calls-close : CallsClose
 calls-close setting format a cs e r =
-    let good : (c : Call) → Answered setting format c → Good (stateAt (c .before)) → Good (stateAt (c .after)) =
+    let good : (c : LinesCall) → AsksClosings setting format c → Good (stateAt (c .before))
+    → Good (stateAt (c .after)) =
     λ c k. stays-good _ setting c (gave-as setting format c (k .lines))
     in
     let g : Good (stateAt a) = rw e good-fresh in
     let one = one-call setting format in
-    let d = chain (Answered setting format) setting good (lineClosings true) closedBy one cs a g r in
-    sym (append-nil (joined (map closedBy cs))) ∙ given-whole (lineClosings true) (closings-bounded true) d
+    let d = chain (AsksClosings setting format) setting good (lineClosings true) closedByCall one cs a g r in
+    sym (append-nil (joined (map closedByCall cs))) ∙ given-whole (lineClosings true) (closings-bounded true) d
     ∙ ap (λ (v : View). outputOf (lineClosings true) (runningAt setting v) (usedIn cs)) e
     ∙ lines-closed setting fresh (usedIn cs)

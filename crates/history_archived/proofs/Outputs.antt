@@ -11,7 +11,7 @@ use Rattle.text_program.specs.Lines.{Program}
 use Rattle.text_program.specs.Chunks.{atLineStart, feedText, joined}
 use Rattle.text_program.specs.Buffer.{Fed}
 use Rattle.c_collector.specs.State.{Arrays}
-use Rattle.history_archived.specs.Runs.{Call, Takes, TakesAs, GoesOn, IsRun}
+use Rattle.history_archived.specs.Runs.{LinesCall, TakesLines, TakesAs, GoesOn, IsRun}
 use Rattle.history_archived.specs.Outputs.{Output, textOut, timesOut, recordsOut, closingsOut, writtenTo, Shares}
 use Rattle.history_archived.specs.Outputs.{last, more, Behind, OutputsStay, ClosingsStay}
 
@@ -34,9 +34,9 @@ fronted {S} {p} {s} {s'} {x} {out} {out'} {n} f =
       rest = ap (drop n) js ∙ drop-at t (drop n out) n (sym e);
     }
 
-module _ (o : Output) (Is : Call → Type 0)
-    (one : (c : Call) → Is c → Fronted (o .lent c) (o .left c) (o .count c)) where
-  behind : (cs : List Call) (a : Arrays) {buffer rest : List ℕ} → IsRun GoesOn Is a cs → Shares o buffer cs rest
+module _ (o : Output) (Is : LinesCall → Type 0)
+    (one : (c : LinesCall) → Is c → Fronted (o .lent c) (o .left c) (o .count c)) where
+  behind : (cs : List LinesCall) (a : Arrays) {buffer rest : List ℕ} → IsRun GoesOn Is a cs → Shares o buffer cs rest
       → rest ≡ drop (length (joined (map (writtenTo o) cs))) buffer
   unfolding IsRun joined
   behind [] a r last = refl
@@ -55,9 +55,9 @@ module _ (o : Output) (Is : Call → Type 0)
 pub outputs-stay : OutputsStay
 outputs-stay = record {
   lines = λ setting. record {
-    text = stays textOut (Takes setting) (λ c k. fronted (k .taken refl .text));
-    times = stays timesOut (Takes setting) (λ c k. fronted (k .taken refl .times));
-    records = stays recordsOut (Takes setting) (λ c k. fronted (k .taken refl .records));
+    text = stays textOut (TakesLines setting) (λ c k. fronted (k .taken refl .text));
+    times = stays timesOut (TakesLines setting) (λ c k. fronted (k .taken refl .times));
+    records = stays recordsOut (TakesLines setting) (λ c k. fronted (k .taken refl .records));
   };
   linesAs = λ setting format. record {
     text = stays textOut (TakesAs setting format) (λ c k. fronted (k .taken refl .text));

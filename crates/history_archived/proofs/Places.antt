@@ -26,9 +26,9 @@ use Rattle.text_collect.specs.Formats.{collectIn}
 use Rattle.c_collector.specs.State.{Arrays}
 use Rattle.c_lines.specs.Calls.{lineNumber, SkippedTo, Skipped}
 use Rattle.c_lines.specs.Formats.{formatOf}
-use Rattle.history_archived.specs.Runs.{Call, usedBy, linesBy, Takes, TakesAs, GoesOn, IsRun, usedIn}
-use Rattle.history_archived.specs.Places.{IsFrom, Passes, passed, skip, Begins, here, again, Walks, ended, next}
-use Rattle.history_archived.specs.Places.{Covers, RestartsCover, SkipsAsTaken, Read, IsRead, AreRead, none, one}
+use Rattle.history_archived.specs.Runs.{LinesCall, usedBy, linesBy, TakesLines, TakesAs, GoesOn, IsRun, usedIn}
+use Rattle.history_archived.specs.Places.{IsFrom, Passes, passed, skip, BeginsAt, here, again, Walks, ended, next}
+use Rattle.history_archived.specs.Places.{Covers, RestartsCover, SkipsAsTaken, LineRead, IsRead, AreRead, none, one}
 use Rattle.history_archived.specs.Places.{lineBy, saidBy, ReadAlike, ReadsAgree, NoneRead}
 use Rattle.history_archived.proofs.Newlines.{newlines, isWhole, newlines-append, whole-append, ticks-count}
 use Rattle.history_archived.proofs.Newlines.{fed-whole, open-none, same-front}
@@ -97,7 +97,7 @@ gone log h (skip {place} {left} {end} {text} {done'} from k more) =
 
 -- the text up to there
 begun : (log : List ℕ) (place lines start : ℕ) → place ≤ length log → isWhole true (take place log) ≡ true
-    → newlines (take place log) ≡ lines → Begins log place lines start
+    → newlines (take place log) ≡ lines → BeginsAt log place lines start
     → (start ≤ length log) × (take start log ≡ take place log)
 begun log place lines start h w n here = (h, refl)
 begun log place lines start h w n (again k) =
@@ -112,16 +112,17 @@ begun log place lines start h w n (again k) =
 
 -- ---- calls
 
-module _ (Is : Call → Type 0) (setting : ℕ) (p : Program (Phase Receiver)) (one : (c : Call) → Is c → Gave p setting c)
-    (inside : (c : Call) → Is c → getD (c .done') 0 0 ≤ length (c .input)) where
-  call-whole : (c : Call) → Is c → isWhole true (usedBy c) ≡ true
+module _ (Is : LinesCall → Type 0) (setting : ℕ) (p : Program (Phase Receiver))
+    (one : (c : LinesCall) → Is c → Gave p setting c)
+    (inside : (c : LinesCall) → Is c → getD (c .done') 0 0 ≤ length (c .input)) where
+  call-whole : (c : LinesCall) → Is c → isWhole true (usedBy c) ≡ true
   call-whole c k =
       fed-whole rowTimes (phase setting (c .after)) (phase setting (c .before)) (usedBy c) (one c k .times .state)
 
-  pub call-count : (c : Call) → Is c → linesBy c ≡ newlines (usedBy c)
+  pub call-count : (c : LinesCall) → Is c → linesBy c ≡ newlines (usedBy c)
   call-count c k = one c k .ticks ∙ ticks-count (usedBy c) (atLineStart (phase setting (c .before)))
 
-  walked : (log : List ℕ) (cs : List Call) (a : Arrays) {place lines end : ℕ} → place ≤ length log
+  walked : (log : List ℕ) (cs : List LinesCall) (a : Arrays) {place lines end : ℕ} → place ≤ length log
       → isWhole true (take place log) ≡ true → newlines (take place log) ≡ lines
       → IsRun GoesOn Is a cs → Walks log place lines cs end → take end log ≡ take place log ++ usedIn cs
   unfolding IsRun joined
@@ -147,21 +148,22 @@ module _ (Is : Call → Type 0) (setting : ℕ) (p : Program (Phase Receiver)) (
   unfolding isWhole newlines
   covers log a cs end r w = sym (walked log cs a (omega arith) refl refl r w)
 
-  run-whole : (cs : List Call) (a : Arrays) → IsRun GoesOn Is a cs → isWhole true (usedIn cs) ≡ true
+  run-whole : (cs : List LinesCall) (a : Arrays) → IsRun GoesOn Is a cs → isWhole true (usedIn cs) ≡ true
   unfolding IsRun joined isWhole
   run-whole [] a r = refl
   run-whole (c ∷ cs) a r =
       whole-append (usedBy c) (usedIn cs) true (call-whole c (r .1)) (run-whole cs (c .after) (r .2))
 
-pub inside : (setting : ℕ) (c : Call) → Takes setting c → getD (c .done') 0 0 ≤ length (c .input)
+pub inside : (setting : ℕ) (c : LinesCall) → TakesLines setting c → getD (c .done') 0 0 ≤ length (c .input)
 inside setting c k = k .taken refl .within
 
-pub inside-as : (setting format : ℕ) (c : Call) → TakesAs setting format c → getD (c .done') 0 0 ≤ length (c .input)
+pub inside-as : (setting format : ℕ) (c : LinesCall) → TakesAs setting format c
+    → getD (c .done') 0 0 ≤ length (c .input)
 inside-as setting format c k = k .taken refl .within
 
 pub restarts-cover : RestartsCover
 restarts-cover = record {
-  lines = λ setting. covers (Takes setting) setting (collect modelCollector) (gave setting) (inside setting);
+  lines = λ setting. covers (TakesLines setting) setting (collect modelCollector) (gave setting) (inside setting);
   linesAs = λ setting format.
       covers (TakesAs setting format) setting (collectIn (formatOf format)) (gave-as setting format)
       (inside-as setting format);
@@ -222,8 +224,8 @@ pub skips-as-taken : SkipsAsTaken
 skips-as-taken = record {
   lines = λ setting c done' k room s.
       let t = k .taken refl in
-      let w = call-whole (Takes setting) setting (collect modelCollector) (gave setting) (inside setting) c k in
-      let n = call-count (Takes setting) setting (collect modelCollector) (gave setting) (inside setting) c k in
+      let w = call-whole (TakesLines setting) setting (collect modelCollector) (gave setting) (inside setting) c k in
+      let n = call-count (TakesLines setting) setting (collect modelCollector) (gave setting) (inside setting) c k in
       as-taken
       (record {
         within = t .within;
@@ -264,7 +266,7 @@ line-more (c ∷ l) x o = go (eqb c newline) o (line-more l x)
     go false o ih = ap (prepend c) (ih o)
 
 -- what a call of `read_line` says that read a line
-record SaidLine (r : Read) (l : List ℕ) : Type 0 where
+record SaidLine (r : LineRead) (l : List ℕ) : Type 0 where
   chars : lineBy r ≡ l ++ (newline ∷ [])
   unended : isUnended l ≡ true
   says : lineReading l ≡ saidBy r
@@ -293,7 +295,7 @@ said-for input =
     })
     (λ t bs h q some. record { used = refl; there = h; reading = q ∙ rw (take-padded 64 bs) })
 
-read-said : (r : Read) → IsRead r → SaidLine r (take (indexOf newline (r .input)) (r .input))
+read-said : (r : LineRead) → IsRead r → SaidLine r (take (indexOf newline (r .input)) (r .input))
 read-said r k =
     let input = r .input in
     let f = frontOf input in
@@ -311,7 +313,7 @@ read-said r k =
       says = s .reading ∙ rw (c .answer, c .told, c .written);
     }
 
-record ReadOver (rs : List Read) : Type 0 where
+record ReadOver (rs : List LineRead) : Type 0 where
   whole : isWhole true (joined (map lineBy rs)) ≡ true
   count : newlines (joined (map lineBy rs)) ≡ length rs
   says : map lineReading (linesOf (joined (map lineBy rs))) ≡ map saidBy rs
@@ -325,7 +327,7 @@ unfolding isWhole
 line-whole [] b = refl
 line-whole (c ∷ l) b = line-whole l (eqb c newline)
 
-read-over : {rs : List Read} → AreRead rs → ReadOver rs
+read-over : {rs : List LineRead} → AreRead rs → ReadOver rs
 unfolding joined isWhole newlines linesOf
 read-over none = record { whole = refl; count = refl; says = refl }
 read-over (one {r} {rs} k ks) =
@@ -343,8 +345,9 @@ read-over (one {r} {rs} k ks) =
       says = ap (map lineReading) lines ∙ ap₂ _∷_ (s .says) (more .says);
     }
 
-module _ (Is : Call → Type 0) (setting : ℕ) (p : Program (Phase Receiver)) (one : (c : Call) → Is c → Gave p setting c)
-    (inside : (c : Call) → Is c → getD (c .done') 0 0 ≤ length (c .input)) where
+module _ (Is : LinesCall → Type 0) (setting : ℕ) (p : Program (Phase Receiver))
+    (one : (c : LinesCall) → Is c → Gave p setting c)
+    (inside : (c : LinesCall) → Is c → getD (c .done') 0 0 ≤ length (c .input)) where
   read-alike : ReadAlike Is
   read-alike a cs rs rest rest' r k e n =
       let o = read-over k in
@@ -356,7 +359,7 @@ module _ (Is : Call → Type 0) (setting : ℕ) (p : Program (Phase Receiver)) (
 
 pub reads-agree : ReadsAgree
 reads-agree = record {
-  lines = λ setting. read-alike (Takes setting) setting (collect modelCollector) (gave setting) (inside setting);
+  lines = λ setting. read-alike (TakesLines setting) setting (collect modelCollector) (gave setting) (inside setting);
   linesAs = λ setting format.
       read-alike (TakesAs setting format) setting (collectIn (formatOf format)) (gave-as setting format)
       (inside-as setting format);

@@ -27,8 +27,8 @@ use Rattle.text_collect.specs.Printed.{pastAfterLines, totalsLine, printedWith,
 use Rattle.text_collect.specs.PrintedIn.{printedWithIn, printedIn}
 use Rattle.text_collect.specs.Session.{Receiver, modelCollector, runningAt}
 use Rattle.text_collect.specs.Rows.{rowTimes, rowRecords, lineTicks}
-use Rattle.text_collect.specs.Elements.{Held, held, lineColumns}
-use Rattle.text_collect.specs.Formats.{totalsIn, collectIn}
+use Rattle.text_collect.specs.Elements.{PhaseColumns, held, lineColumns}
+use Rattle.text_collect.specs.Formats.{totalsTextIn, collectIn}
 use Rattle.text_collect.proofs.Storing.{times-bounded, records-bounded, ticks-bounded}
 use Rattle.text_collect.proofs.Formatting.{format-bounded}
 use Rattle.text_collect.proofs.PrintedIn.{formats-in-pieces, formats-print}
@@ -37,8 +37,8 @@ use Rattle.text_print.proofs.Turning.{front-there}
 use Rattle.journal_model.specs.Rows.{modelRows}
 use Rattle.c_collector.specs.State.{Arrays, columnsAt, stateAt}
 use Rattle.c_lines.specs.Formats.{formatOf}
-use Rattle.history_archived.specs.Runs.{Call, usedBy, textBy, timesBy, recordsBy, linesBy, Takes, TakesAs}
-use Rattle.history_archived.specs.Runs.{GoesOn, IsRun, leftBy, usedIn, linesIn, Agrees, CallsFollow, CallsFollowAs}
+use Rattle.history_archived.specs.Runs.{LinesCall, usedBy, textBy, timesBy, recordsBy, linesBy, TakesLines, TakesAs}
+use Rattle.history_archived.specs.Runs.{GoesOn, IsRun, arraysAtEnd, usedIn, linesIn, FollowsModel, CallsFollow, CallsFollowAs}
 use Rattle.history_archived.specs.Runs.{Lays, CallsLay, CallsLayAs}
 use Rattle.history_archived.specs.Claims.{rowsSaid}
 use Rattle.history_archived.proofs.Archived.{lines-archived}
@@ -58,11 +58,11 @@ fed-front p s s' x out out' n f =
 abbrev pub phase : ℕ → Arrays → Phase Receiver
 phase setting a = runningAt setting (stateAt a)
 
-abbrev pub laid : ℕ → Arrays → Held
+abbrev pub laid : ℕ → Arrays → PhaseColumns
 laid setting a = held (phase setting a) (columnsAt a)
 
 -- what a call gave, where its text is that of a program
-pub record Gave (p : Program (Phase Receiver)) (setting : ℕ) (c : Call) : Type 0 where
+pub record Gave (p : Program (Phase Receiver)) (setting : ℕ) (c : LinesCall) : Type 0 where
   pub text : Drained p lineLimit (phase setting (c .before)) (usedBy c) (phase setting (c .after)) (textBy c)
   pub times : Drained rowTimes lineLimit (phase setting (c .before)) (usedBy c) (phase setting (c .after)) (timesBy c)
   pub records : Drained rowRecords lineLimit (phase setting (c .before)) (usedBy c) (phase setting (c .after))
@@ -70,7 +70,7 @@ pub record Gave (p : Program (Phase Receiver)) (setting : ℕ) (c : Call) : Type
   pub elements : Drained lineColumns lineLimit (laid setting (c .before)) (usedBy c) (laid setting (c .after)) []
   pub ticks : linesBy c ≡ length (feedText lineTicks lineLimit (atLineStart (phase setting (c .before))) (usedBy c))
 
-pub gave : (setting : ℕ) (c : Call) → Takes setting c → Gave (collect modelCollector) setting c
+pub gave : (setting : ℕ) (c : LinesCall) → TakesLines setting c → Gave (collect modelCollector) setting c
 gave setting c k =
     let t = k .taken refl in
     record {
@@ -81,7 +81,8 @@ gave setting c k =
       ticks = t .ticks;
     }
 
-pub gave-as : (setting format : ℕ) (c : Call) → TakesAs setting format c → Gave (collectIn (formatOf format)) setting c
+pub gave-as : (setting format : ℕ) (c : LinesCall) → TakesAs setting format c
+    → Gave (collectIn (formatOf format)) setting c
 gave-as setting format c k =
     let t = k .taken refl in
     record {
@@ -93,21 +94,22 @@ gave-as setting format c k =
     }
 
 -- a state that is good stays so
-pub stays-good : (p : Program (Phase Receiver)) (setting : ℕ) (c : Call) → Gave p setting c → Good (stateAt (c .before))
+pub stays-good : (p : Program (Phase Receiver)) (setting : ℕ) (c : LinesCall) → Gave p setting c
+    → Good (stateAt (c .before))
     → Good (stateAt (c .after))
 stays-good p setting c g =
     good-fed (record { setting = setting; view = stateAt (c .before) })
     (record { setting = setting; view = stateAt (c .after) }) (usedBy c) (g .times .state)
 
 -- what calls give from a good state on, whenever they are restarted
-module _ (Is : Call → Type 0) (setting : ℕ)
-    (good : (c : Call) → Is c → Good (stateAt (c .before)) → Good (stateAt (c .after))) where
-  pub chain : (p : Program (Phase Receiver)) (given : Call → List ℕ)
-      → ((c : Call) → Is c
+module _ (Is : LinesCall → Type 0) (setting : ℕ)
+    (good : (c : LinesCall) → Is c → Good (stateAt (c .before)) → Good (stateAt (c .after))) where
+  pub chain : (p : Program (Phase Receiver)) (given : LinesCall → List ℕ)
+      → ((c : LinesCall) → Is c
       → Drained p lineLimit (phase setting (c .before)) (usedBy c) (phase setting (c .after)) (given c))
-      → (cs : List Call) (a : Arrays) → Good (stateAt a) → IsRun GoesOn Is a cs
-      → Drained p lineLimit (phase setting a) (usedIn cs) (phase setting (leftBy a cs)) (joined (map given cs))
-  unfolding IsRun leftBy joined
+      → (cs : List LinesCall) (a : Arrays) → Good (stateAt a) → IsRun GoesOn Is a cs
+      → Drained p lineLimit (phase setting a) (usedIn cs) (phase setting (arraysAtEnd a cs)) (joined (map given cs))
+  unfolding IsRun arraysAtEnd joined
   chain p given one [] a g r = none p lineLimit (phase setting a)
   chain p given one (c ∷ cs) a g r =
       let e = goes-on (r .0) g in
@@ -126,7 +128,8 @@ given-whole p b {s} {s'} {x} {t} d =
     let e = in-pieces p lineLimit (lit< tt) b s (x ∷ []) in
     rw (append-nil x, append-nil (feedText p lineLimit (atLineStart s) x), d .text, d .state) at e
 
-columns-fed : {h h' : Held} (x : List ℕ) → Drained lineColumns lineLimit h x h' [] → Fed lineColumns h x [] h' [] 0
+columns-fed : {h h' : PhaseColumns} (x : List ℕ) → Drained lineColumns lineLimit h x h' []
+    → Fed lineColumns h x [] h' [] 0
 columns-fed x d = record {
   state = d .state;
   output = rw (d .text) (record { bytes = refl; next = refl; short = omega arith });
@@ -158,11 +161,11 @@ ticks-whole s s' x t d =
 
 -- ---- a run of calls
 
-module _ (Is : Call → Type 0) (setting : ℕ) (p : Program (Phase Receiver))
-    (one : (c : Call) → Is c → Gave p setting c) where
-  columns-run : (cs : List Call) (a : Arrays) → IsRun _≡_ Is a cs
-      → Drained lineColumns lineLimit (laid setting a) (usedIn cs) (laid setting (leftBy a cs)) []
-  unfolding IsRun leftBy joined
+module _ (Is : LinesCall → Type 0) (setting : ℕ) (p : Program (Phase Receiver))
+    (one : (c : LinesCall) → Is c → Gave p setting c) where
+  columns-run : (cs : List LinesCall) (a : Arrays) → IsRun _≡_ Is a cs
+      → Drained lineColumns lineLimit (laid setting a) (usedIn cs) (laid setting (arraysAtEnd a cs)) []
+  unfolding IsRun arraysAtEnd joined
   columns-run [] a r = none lineColumns lineLimit (laid setting a)
   columns-run (c ∷ cs) a r =
       let d = subst
@@ -171,10 +174,10 @@ module _ (Is : Call → Type 0) (setting : ℕ) (p : Program (Phase Receiver))
       in
       both lineColumns lineLimit d (columns-run cs (c .after) (r .2))
 
-  lays : (a : Arrays) (cs : List Call) → IsRun _≡_ Is a cs → Lays setting a cs
+  lays : (a : Arrays) (cs : List LinesCall) → IsRun _≡_ Is a cs → Lays setting a cs
   lays a cs r = columns-fed (usedIn cs) (columns-run cs a r)
 
-  pub counted : (cs : List Call) (a : Arrays) → IsRun GoesOn Is a cs → linesIn cs ≡ newlines (usedIn cs)
+  pub counted : (cs : List LinesCall) (a : Arrays) → IsRun GoesOn Is a cs → linesIn cs ≡ newlines (usedIn cs)
   unfolding IsRun linesIn joined newlines
   counted [] a r = refl
   counted (c ∷ cs) a r =
@@ -182,12 +185,12 @@ module _ (Is : Call → Type 0) (setting : ℕ) (p : Program (Phase Receiver))
       let n = ticks-count (usedBy c) (atLineStart (phase setting (c .before))) in
       ap₂ _+_ (g .ticks ∙ n) (counted cs (c .after) (r .2)) ∙ sym (newlines-append (usedBy c) (usedIn cs))
 
-  good : (c : Call) → Is c → Good (stateAt (c .before)) → Good (stateAt (c .after))
+  good : (c : LinesCall) → Is c → Good (stateAt (c .before)) → Good (stateAt (c .after))
   good c k = stays-good p setting c (one c k)
 
-  module _ (a : Arrays) (cs : List Call) (e : stateAt a ≡ fresh) (r : IsRun GoesOn Is a cs) where
+  module _ (a : Arrays) (cs : List LinesCall) (e : stateAt a ≡ fresh) (r : IsRun GoesOn Is a cs) where
     abbrev last : Phase Receiver
-    last = phase setting (leftBy a cs)
+    last = phase setting (arraysAtEnd a cs)
 
     begins-good : Good (stateAt a)
     begins-good = rw e good-fresh
@@ -211,7 +214,7 @@ module _ (Is : Call → Type 0) (setting : ℕ) (p : Program (Phase Receiver))
         ap₂ rowsGiven t b ∙ ap (λ (v : View). rowsSaid (runningAt setting v) (usedIn cs)) (e ∙ fresh-model)
         ∙ lines-archived setting [] (usedIn cs)
 
-    agree : Agrees cs
+    agree : FollowsModel cs
     agree = record {
       rows = same-rows;
       lines =
@@ -275,19 +278,19 @@ output-printed f y =
 
 follows-in : (f : Format) (setting : ℕ) → setting ≤ 2 → (v : View) (x t : List ℕ)
     → Drained (collectIn f) lineLimit (runningAt setting fresh) x (runningAt setting v) t
-    → headingIn f ++ (t ++ totalsIn f (v .totals)) ≡ printedWithIn f (Setting.Level setting) (linesOf x)
+    → headingIn f ++ (t ++ totalsTextIn f (v .totals)) ≡ printedWithIn f (Setting.Level setting) (linesOf x)
 follows-in f setting few v x t d =
     let w = both (collectIn f) lineLimit (first-in f setting few) d in
     let y = levelText setting ++ x in
-    sym (append-assoc (headingIn f) t (totalsIn f (v .totals)))
+    sym (append-assoc (headingIn f) t (totalsTextIn f (v .totals)))
     ∙ given-whole (collectIn f) (format-bounded f) w ∙ output-printed f y ∙ level-printed-in f setting few x
 
 pub calls-follow : CallsFollow
 calls-follow setting a cs few e r =
-    let t = texts (Takes setting) setting (collect modelCollector) (gave setting) a cs e r in
+    let t = texts (TakesLines setting) setting (collect modelCollector) (gave setting) a cs e r in
     record {
-      text = follows-text setting few (stateAt (leftBy a cs)) (usedIn cs) (joined (map textBy cs)) t;
-      agrees = agree (Takes setting) setting (collect modelCollector) (gave setting) a cs e r;
+      text = follows-text setting few (stateAt (arraysAtEnd a cs)) (usedIn cs) (joined (map textBy cs)) t;
+      agrees = agree (TakesLines setting) setting (collect modelCollector) (gave setting) a cs e r;
     }
 
 pub calls-follow-as : CallsFollowAs
@@ -295,12 +298,12 @@ calls-follow-as setting format a cs few e r =
     let f = formatOf format in
     let t = texts (TakesAs setting format) setting (collectIn f) (gave-as setting format) a cs e r in
     record {
-      text = follows-in f setting few (stateAt (leftBy a cs)) (usedIn cs) (joined (map textBy cs)) t;
+      text = follows-in f setting few (stateAt (arraysAtEnd a cs)) (usedIn cs) (joined (map textBy cs)) t;
       agrees = agree (TakesAs setting format) setting (collectIn f) (gave-as setting format) a cs e r;
     }
 
 pub calls-lay : CallsLay
-calls-lay setting a cs r = lays (Takes setting) setting (collect modelCollector) (gave setting) a cs r
+calls-lay setting a cs r = lays (TakesLines setting) setting (collect modelCollector) (gave setting) a cs r
 
 pub calls-lay-as : CallsLayAs
 calls-lay-as setting format a cs r =

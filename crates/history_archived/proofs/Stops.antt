@@ -24,7 +24,7 @@ use Rattle.text_collect.specs.Formats.{collectIn, longestLineIn}
 use Rattle.text_collect.specs.Heard.{lineClosings, hasRoomBehind}
 use Rattle.c_collector.specs.State.{stateAt}
 use Rattle.c_lines.specs.Formats.{formatOf}
-use Rattle.history_archived.specs.Runs.{Call, usedBy, linesBy, Takes, TakesAs}
+use Rattle.history_archived.specs.Runs.{LinesCall, usedBy, linesBy, TakesLines, TakesAs}
 use Rattle.history_archived.specs.Places.{TakenAlike, StopsDecided}
 use Rattle.history_archived.proofs.Newlines.{newlines, newlines-append, fed-whole, open-none, same-front}
 use Rattle.history_archived.proofs.Runs.{phase, gave, gave-as}
@@ -115,8 +115,8 @@ moved D {v} {v'} {x} {x'} {m} {m'} {o} {o'} {r} {r'} {k} {k'} a b c d e f y =
     (subst (λ (w : List ℕ). D v' w m o r k) b
     (subst (λ (w : View). D w x m o r k) a y)))))
 
-module _ (Is : Call → Type 0) (Ready : ℕ → View → (out moments closed : ℕ) → List ℕ → Type 0) (setting : ℕ)
-    (one : (c : Call) → Is c
+module _ (Is : LinesCall → Type 0) (Ready : ℕ → View → (out moments closed : ℕ) → List ℕ → Type 0) (setting : ℕ)
+    (one : (c : LinesCall) → Is c
     → DecidesBy Ready setting (getD (c .done') 0 0) (linesBy c) (stateAt (c .before)) (c .input) (c .most)
     (length (c .out)) (length (c .moments)) (length (c .closed))) where
   taken-alike : TakenAlike Is
@@ -125,7 +125,7 @@ module _ (Is : Call → Type 0) (Ready : ℕ → View → (out moments closed : 
       (moved (DecidesBy Ready setting (getD (d .done') 0 0) (linesBy d)) (sym (e .state)) (sym (e .input))
       (sym (e .most)) (sym (e .text)) (sym (e .rows)) (sym (e .closings)) (one d l))
 
-decides : (setting : ℕ) (c : Call) → Takes setting c
+decides : (setting : ℕ) (c : LinesCall) → TakesLines setting c
     → DecidesBy roomAt setting (getD (c .done') 0 0) (linesBy c) (stateAt (c .before)) (c .input) (c .most)
     (length (c .out)) (length (c .moments)) (length (c .closed))
 decides setting c k =
@@ -134,14 +134,15 @@ decides setting c k =
       after = phase setting (c .after);
       led = t .times .state;
       within = t .within;
-      count = sym (call-count (Takes setting) setting (collect modelCollector) (gave setting) (inside setting) c k);
+      count = sym
+          (call-count (TakesLines setting) setting (collect modelCollector) (gave setting) (inside setting) c k);
       few = t .few;
       due = λ n s h f. let r = t .due n s h f in record { rows = r .rows; chars = r .chars };
       rest = λ h r.
           t .rest h (omega (arith, r .rows, t .times .output .next)) (omega (arith, r .chars, t .text .output .next));
     }
 
-decides-as : (setting format : ℕ) (c : Call) → TakesAs setting format c
+decides-as : (setting format : ℕ) (c : LinesCall) → TakesAs setting format c
     → DecidesBy (roomIn (formatOf format)) setting (getD (c .done') 0 0) (linesBy c) (stateAt (c .before)) (c .input)
     (c .most) (length (c .out)) (length (c .moments)) (length (c .closed))
 decides-as setting format c k =
@@ -168,7 +169,7 @@ decides-as setting format c k =
 
 pub stops-decided : StopsDecided
 stops-decided = record {
-  lines = λ setting. taken-alike (Takes setting) roomAt setting (decides setting);
+  lines = λ setting. taken-alike (TakesLines setting) roomAt setting (decides setting);
   linesAs = λ setting format.
       taken-alike (TakesAs setting format) (roomIn (formatOf format)) setting (decides-as setting format);
 }

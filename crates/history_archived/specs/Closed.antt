@@ -18,7 +18,7 @@ use Rattle.text_collect.specs.Printed.{receptionAt, pastAfterLines}
 use Rattle.text_collect.specs.Session.{runningAt}
 use Rattle.text_collect.specs.Heard.{lineClosings}
 use Rattle.c_collector.specs.State.{Arrays, stateAt}
-use Rattle.history_archived.specs.Runs.{Call, TakesAs, GoesOn, IsRun, usedIn}
+use Rattle.history_archived.specs.Runs.{LinesCall, TakesAs, GoesOn, IsRun, usedIn}
 
 -- ---- by the model
 
@@ -69,11 +69,11 @@ LinesClosed =
 -- ---- by calls
 
 -- what a call closes
-abbrev pub closedBy : Call → List ℕ
-closedBy c = take (32 * getD (c .done') 4 0) (c .closed')
+abbrev pub closedByCall : LinesCall → List ℕ
+closedByCall c = take (32 * getD (c .done') 4 0) (c .closed')
 
 -- a call of `lines_as` that asks for closings
-pub record Answered (setting format : ℕ) (c : Call) : Type 0 where
+pub record AsksClosings (setting format : ℕ) (c : LinesCall) : Type 0 where
   pub lines : TakesAs setting format c
   pub asked : 0 < length (c .closed)
 
@@ -81,5 +81,6 @@ pub record Answered (setting format : ℕ) (c : Call) : Type 0 where
 -- model closes in all that they used. The collector starts fresh.
 abbrev pub CallsClose : Type 0
 CallsClose =
-    (setting format : ℕ) (a : Arrays) (cs : List Call) → stateAt a ≡ fresh → IsRun GoesOn (Answered setting format) a cs
-    → joined (map closedBy cs) ≡ entryCells (closingsFrom fresh (handedOver (linesOf (usedIn cs))))
+    (setting format : ℕ) (a : Arrays) (cs : List LinesCall) → stateAt a ≡ fresh
+    → IsRun GoesOn (AsksClosings setting format) a cs
+    → joined (map closedByCall cs) ≡ entryCells (closingsFrom fresh (handedOver (linesOf (usedIn cs))))

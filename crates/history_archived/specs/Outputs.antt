@@ -7,13 +7,13 @@ use lib.ListN.{length, getD, take, drop}
 use Rattle.text_program.specs.Chunks.{joined}
 use Rattle.archive_fill.specs.Fill.{rowLength}
 use Rattle.c_collector.specs.State.{Arrays}
-use Rattle.history_archived.specs.Runs.{Call, TakesAs, GoesOn, IsRun, OfBoth}
+use Rattle.history_archived.specs.Runs.{LinesCall, TakesAs, GoesOn, IsRun, OfBoth}
 
 -- an output of a call: the buffer that is lent, the buffer after the call, and how much the call writes at its front
 pub record Output : Type 0 where
-  pub lent : Call → List ℕ
-  pub left : Call → List ℕ
-  pub count : Call → ℕ
+  pub lent : LinesCall → List ℕ
+  pub left : LinesCall → List ℕ
+  pub count : LinesCall → ℕ
 
 -- the output for text
 abbrev pub textOut : Output
@@ -32,23 +32,23 @@ abbrev pub closingsOut : Output
 closingsOut = record { lent = λ c. c .closed; left = λ c. c .closed'; count = λ c. 32 * getD (c .done') 4 0 }
 
 -- what a call wrote into an output
-abbrev pub writtenTo : Output → Call → List ℕ
+abbrev pub writtenTo : Output → LinesCall → List ℕ
 writtenTo o c = take (o .count c) (o .left c)
 
 -- calls share a buffer: each gets the rest of it, after what the call before wrote
-pub data Shares (o : Output) : (buffer : List ℕ) → List Call → (rest : List ℕ) → Type 0 where
+pub data Shares (o : Output) : (buffer : List ℕ) → List LinesCall → (rest : List ℕ) → Type 0 where
   last : {buffer : List ℕ} → Shares o buffer [] buffer
-  more : {rest : List ℕ} {c : Call} {cs : List Call}
+  more : {rest : List ℕ} {c : LinesCall} {cs : List LinesCall}
       → Shares o (drop (o .count c) (o .left c)) cs rest → Shares o (o .lent c) (c ∷ cs) rest
 
 -- THE CLAIM: after all that the calls wrote, the buffer is unchanged
-abbrev pub Behind : Output → (Call → Type 0) → Type 0
+abbrev pub Behind : Output → (LinesCall → Type 0) → Type 0
 Behind o Is =
-    (a : Arrays) (cs : List Call) (buffer rest : List ℕ) → IsRun GoesOn Is a cs → Shares o buffer cs rest
+    (a : Arrays) (cs : List LinesCall) (buffer rest : List ℕ) → IsRun GoesOn Is a cs → Shares o buffer cs rest
     → rest ≡ drop (length (joined (map (writtenTo o) cs))) buffer
 
 -- the claim for text, times and records
-pub record Stay (Is : Call → Type 0) : Type 0 where
+pub record Stay (Is : LinesCall → Type 0) : Type 0 where
   pub text : Behind textOut Is
   pub times : Behind timesOut Is
   pub records : Behind recordsOut Is

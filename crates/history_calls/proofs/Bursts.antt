@@ -33,7 +33,7 @@ use Rattle.c_collector.specs.State.{Arrays, stateAt}
 use Rattle.c_burst.specs.Bytes.{receptionsIn, replyLength, replyBytes, isSized}
 use Rattle.c_burst.specs.Calls.{BurstCall, anyPlace, repliesWith, burstCall, Bursts}
 use Rattle.c_burst.proofs.Sizes.{called}
-use Rattle.history_calls.specs.Answers.{repliedIn, repliesIn}
+use Rattle.history_calls.specs.Answers.{repliedIn, repliesInPlaces}
 use Rattle.history_calls.proofs.Answers.{ProperReply, proper-reply, reply-back}
 
 -- ---- places
@@ -46,13 +46,13 @@ module _ (bytes : List ℕ) where
   abbrev at : ℕ → Replied
   at i = repliedIn (part (replyLength * i) replyLength bytes)
 
-  pub replies-count : length (repliesIn bytes) ≡ length bytes / replyLength
-  unfolding repliesIn
+  pub replies-count : length (repliesInPlaces bytes) ≡ length bytes / replyLength
+  unfolding repliesInPlaces
   replies-count = length-map (upFrom 0 (length bytes / replyLength)) at ∙ length-upFrom 0 (length bytes / replyLength)
 
   pub reply-at : (i : ℕ) → i < length bytes / replyLength
-      → getD (repliesIn bytes) i none ≡ repliedIn (part (replyLength * i) replyLength bytes)
-  unfolding repliesIn
+      → getD (repliesInPlaces bytes) i none ≡ repliedIn (part (replyLength * i) replyLength bytes)
+  unfolding repliesInPlaces
   reply-at i h = getD-upFrom at 0 (length bytes / replyLength) i none h ∙ ap at (zero-add i)
 
 reply-length : (p : Replied) → length (replyBytes p) ≡ replyLength
@@ -98,26 +98,26 @@ module _ (ps : List Replied) (proper : (i : ℕ) → i < length ps → ProperRep
       )
       (ap (take replyLength) (drop-drop (replyLength * j) (replyLength * length ps) old))
 
-  pub replies-over : repliesIn new ≡ ps ++ drop (length ps) (repliesIn old)
+  pub replies-over : repliesInPlaces new ≡ ps ++ drop (length ps) (repliesInPlaces old)
   replies-over =
-      ext-getD none (repliesIn new) (ps ++ drop (length ps) (repliesIn old)) same-length
+      ext-getD none (repliesInPlaces new) (ps ++ drop (length ps) (repliesInPlaces old)) same-length
       (λ i h. each-same i (rw (replies-count new, new-length) at h))
     where
-      same-length : length (repliesIn new) ≡ length (ps ++ drop (length ps) (repliesIn old))
+      same-length : length (repliesInPlaces new) ≡ length (ps ++ drop (length ps) (repliesInPlaces old))
       same-length =
           replies-count new ∙ ap (λ n. n / replyLength) new-length
           ∙ sym (length-append ps _ ∙ rw (length-drop, replies-count old) (omega arith))
 
       each-same : (i : ℕ) → i < length old / replyLength
-          → getD (repliesIn new) i none ≡ getD (ps ++ drop (length ps) (repliesIn old)) i none
+          → getD (repliesInPlaces new) i none ≡ getD (ps ++ drop (length ps) (repliesInPlaces old)) i none
       each-same i h = reply-at new i (rw new-length h) ∙ elim (decLt i (length ps)) [
-        | yes k ↦ in-front i k ∙ sym (List·getD-append ps (drop (length ps) (repliesIn old)) none i k)
+        | yes k ↦ in-front i k ∙ sym (List·getD-append ps (drop (length ps) (repliesInPlaces old)) none i k)
         | no k ↦
             (let e : length ps + (i - length ps) ≡ i = omega arith in
             rw (← e)
             (ap repliedIn (behind (i - length ps))
             ∙ sym (getD-append-add ps _ (i - length ps) none
-            ∙ getD-drop (length ps) (repliesIn old) (i - length ps) none
+            ∙ getD-drop (length ps) (repliesInPlaces old) (i - length ps) none
             ∙ reply-at old (length ps + (i - length ps)) (rw e h))))
       ]
 
@@ -143,7 +143,7 @@ module _ (setting : ℕ) (v : View) (rs : List Reception) (old : List ℕ) where
   abbrev number : ℕ
   number = burstNumber setting v (length rs) (length places)
 
-  same-number : number ≡ burstNumber setting v (length rs) (length (repliesIn old))
+  same-number : number ≡ burstNumber setting v (length rs) (length (repliesInPlaces old))
   same-number = ap (burstNumber setting v (length rs)) (length-replicate room anyPlace ∙ sym (replies-count old))
 
   -- all that is taken has a place
@@ -161,26 +161,31 @@ module _ (setting : ℕ) (v : View) (rs : List Reception) (old : List ℕ) where
   abbrev with-number : ℕ → BurstResult
   with-number n =
       let t = taken n rs in
-      record { number = n; replies = repliesTo setting v t ++ drop (length t) (repliesIn old); next = afterAll v t }
+      record {
+        number = n;
+        replies = repliesTo setting v t
+            ++ drop (length t) (repliesInPlaces old);
+        next = afterAll v t;
+      }
 
   abbrev t : List Reception
   t = taken number rs
 
-  second-list : repliesIn (repliesWith (length t) (repliesTo setting v t ++ drop (length t) places) old)
-      ≡ repliesTo setting v t ++ drop (length t) (repliesIn old)
+  second-list : repliesInPlaces (repliesWith (length t) (repliesTo setting v t ++ drop (length t) places) old)
+      ≡ repliesTo setting v t ++ drop (length t) (repliesInPlaces old)
   second-list =
       let long = replies-to-length setting v t in
       let few : length (repliesTo setting v t) ≤ room = rw long taken-few in
-      ap (λ (l : List Replied). repliesIn (flatten (map replyBytes l) ++ drop (replyLength * length t) old))
+      ap (λ (l : List Replied). repliesInPlaces (flatten (map replyBytes l) ++ drop (replyLength * length t) old))
       (take-at (repliesTo setting v t) (drop (length t) places) (length t) long)
       ∙ rw long at (replies-over (repliesTo setting v t) (proper-all setting v t) old few)
 
   abbrev decoded : BurstCall → BurstResult
-  decoded c = record { number = c .number; replies = repliesIn (c .replies); next = c .next }
+  decoded c = record { number = c .number; replies = repliesInPlaces (c .replies); next = c .next }
 
   module _ (moments records : List ℕ) (are : receptionsIn moments records ≡ rs)
       (sized : isSized (length moments) (length records) ≡ true) where
-    pub call-is : decoded (burstCall setting v moments records old) ≡ burstOf setting v rs (repliesIn old)
+    pub call-is : decoded (burstCall setting v moments records old) ≡ burstOf setting v rs (repliesInPlaces old)
     unfolding burstCall
     call-is =
         let fair : acceptable v && not (isSized (length moments) (length records)) ≡ false =
@@ -193,8 +198,9 @@ module _ (setting : ℕ) (v : View) (rs : List Reception) (old : List ℕ) where
 pub bursts-are : {s s' : Arrays} {setting n : ℕ} {moments records old new : List ℕ}
     → isSized (length moments) (length records) ≡ true
     → Bursts s setting moments records old n s' new
-    → record { number = n; replies = repliesIn new; next = stateAt s' }
-    ≡ burstOf setting (stateAt s) (receptionsIn moments records) (repliesIn old)
+    → record { number = n; replies = repliesInPlaces new; next = stateAt s' }
+    ≡ burstOf setting (stateAt s) (receptionsIn moments records) (repliesInPlaces old)
 bursts-are {s} {s'} {setting} {n} {moments} {records} {old} sized b =
-    ap (λ (c : BurstCall). record { number = c .number; replies = repliesIn (c .replies); next = c .next }) (b .result)
+    ap (λ (c : BurstCall). record { number = c .number; replies = repliesInPlaces (c .replies); next = c .next })
+    (b .result)
     ∙ call-is setting (stateAt s) (receptionsIn moments records) old moments records refl sized

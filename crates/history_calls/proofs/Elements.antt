@@ -15,7 +15,7 @@ use Rattle.base_refusal.proofs.Numbers.{refused-number}
 use Rattle.collector_model.specs.Answer.{isReceived, shownOf}
 use Rattle.collector_model.specs.View.{Reception, View, fresh}
 use Rattle.collector_model.specs.Acceptable.{acceptable}
-use Rattle.collector_model.specs.Step.{Outcome, step}
+use Rattle.collector_model.specs.Step.{StepOutcome, step}
 use Rattle.collector_model.specs.Image.{CheckpointResult, RestoreResult, imageLength, accepts, parse, checkpointOf, restoreOf}
 use Rattle.collector_model.specs.Burst.{Replied, taken, BurstResult, burstOf}
 use Rattle.collector_model.specs.History.{Receive, Restore, Cut, Burst}
@@ -36,7 +36,7 @@ use Rattle.c_collector.proofs.State.{numbers-counted}
 use Rattle.c_checkpoint.specs.Calls.{Restores}
 use Rattle.c_burst.specs.Bytes.{receptionsIn, isSized}
 use Rattle.c_burst.specs.Calls.{BurstCall, burstCall, Bursts}
-use Rattle.history_calls.specs.Answers.{repliesIn}
+use Rattle.history_calls.specs.Answers.{repliesInPlaces}
 use Rattle.history_calls.specs.Elements.{arraysWith, freshArrays, restoredArrays, arraysAfter}
 use Rattle.history_calls.proofs.Bursts.{bursts-are}
 
@@ -82,10 +82,10 @@ resumed s output e f k = restored k ∙ other-collector f (ap (λ (p : Checkpoin
 pub bursted : {s s' : Arrays} {setting n : ℕ} {moments records old new : List ℕ}
     → isSized (length moments) (length records) ≡ true
     → Bursts s setting moments records old n s' new
-    → s' ≡ arraysAfter s (Burst setting (receptionsIn moments records) (repliesIn old))
+    → s' ≡ arraysAfter s (Burst setting (receptionsIn moments records) (repliesInPlaces old))
 bursted {s} {s'} {setting} {n} {moments} {records} {old} sized k =
     let rs = receptionsIn moments records in
-    let b = burstOf setting (stateAt s) rs (repliesIn old) in
+    let b = burstOf setting (stateAt s) rs (repliesInPlaces old) in
     let is = bursts-are sized k in
     let same : n ≡ b .number = ap (λ (x : BurstResult). x .number) is in
     let a = columnsAfterAll (stateAt s) rs (columnsAt s) in
@@ -113,8 +113,8 @@ took-value {c} {r} {t} setting k =
     let a = columnsAfter v r (columnsOf c) in
     chosen (arraysOf (t .next)) (isReceived (step v r .answer)) (arraysWith a (step v r .next)) (arraysOf c)
     (λ yes. joined (arraysOf (t .next)) a (step v r .next) (k .elements)
-    (counted (t .next) (step v r .next) (ap (λ (o : Outcome). o .next) (k .outcome))))
-    (λ no. ap arraysOf (k .stays (ap (λ (o : Outcome). isReceived (o .answer)) (k .outcome) ∙ no)))
+    (counted (t .next) (step v r .next) (ap (λ (o : StepOutcome). o .next) (k .outcome))))
+    (λ no. ap arraysOf (k .stays (ap (λ (o : StepOutcome). isReceived (o .answer)) (k .outcome) ∙ no)))
 
 -- a restore that is done gives what the image says
 restore-done : (v : View) (image : List ℕ) → restoreOf v image .number ≡ 0 → restoreOf v image .next ≡ parse image

@@ -19,7 +19,7 @@ use Rattle.collector_model.specs.declared.Totals.{Totals}
 use Rattle.collector_model.specs.Answer.{Shown, Kept, Copy, Loose, Refused, isKept, shownOf}
 use Rattle.collector_model.specs.View.{Reception, View}
 use Rattle.collector_model.specs.Acceptable.{acceptable}
-use Rattle.collector_model.specs.Step.{Outcome, step, sentFor}
+use Rattle.collector_model.specs.Step.{StepOutcome, step, sentFor}
 use Rattle.collector_model.specs.Heard.{HeardResult, copiesOf}
 use Rattle.collector_model.specs.History.{Call, Receive, Checkpoint, Restore, Cut, Burst, Ask, Look, Seen, Answered, Wrote, Restored, Delivered, Heard, Looked}
 use Rattle.collector_model.specs.States.{Shows, leftBy}
@@ -30,7 +30,7 @@ use Rattle.c_collector.specs.State.{Arrays, stateAt, summaryIn}
 use Rattle.c_collector.specs.Calls.{answerNumber, Takes, TotalsCall, totalsCall, copiesCall}
 use Rattle.c_collector.proofs.State.{taken}
 use Rattle.c_burst.specs.Bytes.{receptionsIn}
-use Rattle.history_calls.specs.Answers.{shownIn, repliesIn}
+use Rattle.history_calls.specs.Answers.{shownIn, repliesInPlaces}
 use Rattle.history_calls.specs.Arrays.{TotalsSeen, sentAt, ArraysShow}
 use Rattle.history_calls.specs.Arrays as lent
 use Rattle.history_calls.specs.Values.{sentOf, ValuesShow}
@@ -73,7 +73,7 @@ pub sends : {s s' : Arrays} {r : Reception} {n : ℕ} (setting : ℕ)
 unfolding sentFor
 sends {s} {s'} {r} {n} setting k =
     let a = step (stateAt s) r .answer in
-    let is : shownIn n ≡ a = ap (λ (o : Outcome). o .answer) (answered k) in
+    let is : shownIn n ≡ a = ap (λ (o : StepOutcome). o .answer) (answered k) in
     let test : eqb n 0 ≡ isKept a = ap (λ (x : ℕ). eqb x 0) (k .answered) ∙ kept-zero a (answer-proper (stateAt s) r) in
     let e : repeatResult setting (r .bytes) .sent ≡ frameOf (repeatOf setting (r .bytes)) =
     repeat-sent setting (r .bytes) in
@@ -129,10 +129,10 @@ arrays-follow (lent.delivered {s = s} {e = e} {setting = setting} {n = n}
     sized k t u) =
     let f = arrays-follow u in
     let rs = receptionsIn moments records in
-    subst (λ (x : Totals). Followed stateAt s (Burst setting rs (repliesIn old) ∷ h)
-    (Delivered n (repliesIn new) x ∷ l) e)
+    subst (λ (x : Totals). Followed stateAt s (Burst setting rs (repliesInPlaces old) ∷ h)
+    (Delivered n (repliesInPlaces new) x ∷ l) e)
     (sym (totals-seen t))
-    (shows.delivered {rs = rs} {places = repliesIn old} (bursts-are sized k) (f .0), f .1)
+    (shows.delivered {rs = rs} {places = repliesInPlaces old} (bursts-are sized k) (f .0), f .1)
 arrays-follow (lent.asked {s = s} {e = e} {k = k} {n = n} {copies = copies} {h = h} {l = l} a t u) =
     let f = arrays-follow u in
     subst (λ (x : Totals). Followed stateAt s (Ask k ∷ h) (Heard n copies x ∷ l) e)

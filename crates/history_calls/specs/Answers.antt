@@ -36,12 +36,13 @@ repliedIn s = record {
 }
 
 -- all whole entries
-unfoldable pub repliesIn : List ℕ → List Replied
-repliesIn bytes = map (λ i. repliedIn (part (replyLength * i) replyLength bytes)) (upFrom 0 (length bytes / replyLength))
+unfoldable pub repliesInPlaces : List ℕ → List Replied
+repliesInPlaces bytes = map (λ i. repliedIn (part (replyLength * i) replyLength bytes))
+    (upFrom 0 (length bytes / replyLength))
 
 -- the six totals
-abbrev pub totalsIn : List ℕ → Totals
-totalsIn values = record {
+abbrev pub totalsInValues : List ℕ → Totals
+totalsInValues values = record {
   received = getD values 0 0;
   kept = getD values 1 0;
   copies = getD values 2 0;

@@ -20,7 +20,7 @@ use Rattle.c_collector.specs.Calls.{Takes, TakesTold, Fresh, totalsCall, copies
 use Rattle.c_checkpoint.specs.Calls.{Restores}
 use Rattle.c_burst.specs.Bytes.{receptionsIn, isSized}
 use Rattle.c_burst.specs.Calls.{Bursts}
-use Rattle.history_calls.specs.Answers.{shownIn, repliesIn, totalsIn}
+use Rattle.history_calls.specs.Answers.{shownIn, repliesInPlaces, totalsInValues}
 
 -- the totals that a caller sees after a call: those that `totals` gives. If `totals` refuses the state, they are those
 -- in the eight numbers.
@@ -29,7 +29,7 @@ pub record TotalsSeen (s : Arrays) (n : Totals) : Type 0 where
   pub values : List ℕ
   pub number : ℕ
   pub called : record { number = number; values = values } ≡ totalsCall (stateAt s) old
-  pub seen : n ≡ cond (eqb number 0) (totalsIn values) (summaryIn (s .numbers) .totals)
+  pub seen : n ≡ cond (eqb number 0) (totalsInValues values) (summaryIn (s .numbers) .totals)
 
 -- what a caller sends for a reception with this answer: for KEPT what `repeat` gives, else nothing
 abbrev pub sentAt : ℕ → ℕ → Reception → Frame
@@ -60,7 +60,8 @@ pub data ArraysShow : Arrays → List Call → List Seen → Arrays → Type 0 w
   delivered : {s s' e : Arrays} {setting n : ℕ} {moments records old new : List ℕ} {t : Totals} {h : List Call} {l : List Seen}
       → isSized (length moments) (length records) ≡ true
       → Bursts s setting moments records old n s' new → TotalsSeen s' t → ArraysShow s' h l e
-      → ArraysShow s (Burst setting (receptionsIn moments records) (repliesIn old) ∷ h) (Delivered n (repliesIn new) t ∷ l) e
+      → ArraysShow s (Burst setting (receptionsIn moments records) (repliesInPlaces old) ∷ h)
+      (Delivered n (repliesInPlaces new) t ∷ l) e
   -- the lent number is 0 before the call
   asked : {s e : Arrays} {k n copies : ℕ} {t : Totals} {h : List Call} {l : List Seen}
       → record { number = n; copies = copies } ≡ copiesCall (stateAt s) k 0 → TotalsSeen s t → ArraysShow s h l e

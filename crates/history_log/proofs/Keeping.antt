@@ -30,8 +30,8 @@ use Rattle.history_archived.specs.Archived.{archivedOf}
 use Rattle.history_archived.specs.Claims.{rowsSaid}
 use Rattle.history_archived.proofs.Archived.{archived-storable}
 use Rattle.history_log.specs.declared.Pass.{Pass}
-use Rattle.history_log.specs.Keep.{stateOf, capacityOf, Keeping, keepOf}
-use Rattle.history_log.specs.Private.{Holds, phaseAt, Ready, Passed, states, Went, Logged, WentThrough}
+use Rattle.history_log.specs.Keep.{stateAfterLog, capacityOf, Keeping, keepOf}
+use Rattle.history_log.specs.Private.{Holds, phaseAt, Ready, TextPassed, states, Went, LogPassed, WentThrough}
 use Rattle.history_log.proofs.Said.{first-said, none-said}
 use Rattle.history_log.proofs.States.{state-whole, first-state, none-state}
 use Rattle.history_log.proofs.Turning.{callable, good-fits}
@@ -44,7 +44,7 @@ holds-room {archive} h = omega (arith, rows-few archive (h .right), h .count)
 module _ (write : Bool) (log archive : List ℕ) (n : ℕ) (h : Holds archive n) (setting : ℕ)
     (e : setting ≡ firstNumber log) where
   -- no right first line: there are no rows
-  none-passed : 2 < setting → Passed write (archivedOf log) archive n archive (record { fits = true; rows = n })
+  none-passed : 2 < setting → TextPassed write (archivedOf log) archive n archive (record { fits = true; rows = n })
   none-passed big =
       let none = none-said log (rw e at big) in
       rw none
@@ -59,7 +59,7 @@ module _ (write : Bool) (log archive : List ℕ) (n : ℕ) (h : Holds archive n)
     good : Good (stateAt s)
     good = subst Good (sym new) good-fresh
 
-    pub none-logged : 2 < setting → Logged write log archive n s archive (record { fits = true; rows = n })
+    pub none-logged : 2 < setting → LogPassed write log archive n s archive (record { fits = true; rows = n })
     none-logged big = record {
       passed = none-passed big;
       left = λ _. ap imageOf new ∙ sym (none-state log (rw e at big)) ∙ state-whole log;
@@ -73,7 +73,7 @@ module _ (write : Bool) (log archive : List ℕ) (n : ℕ) (h : Holds archive n)
       said : archivedOf log ≡ rowsSaid (phaseAt setting s) rest
       said = first-said log setting e level ∙ ap (λ (v : View). rowsSaid (runningAt setting v) rest) (sym new)
 
-      stands : outputOf states (phaseAt setting s) rest ≡ imageOf (stateOf log)
+      stands : outputOf states (phaseAt setting s) rest ≡ imageOf (stateAfterLog log)
       stands =
           ap (λ (v : View). outputOf states (runningAt setting v) rest) new ∙ sym (first-state log setting e level)
           ∙ state-whole log
@@ -88,7 +88,7 @@ module _ (write : Bool) (log archive : List ℕ) (n : ℕ) (h : Holds archive n)
 
       pub first-logged : {s' : Arrays} {archive' : List ℕ} (r : Pass)
           → Went write s setting rest archive n s' archive' r
-          → Logged write log archive n s' archive' r
+          → LogPassed write log archive n s' archive' r
       first-logged r w = record {
         passed = rw said (w .passed);
         left = λ f. sym (w .left f) ∙ stands;
@@ -178,7 +178,8 @@ module _ (log archive image : List ℕ) {n : ℕ} (h : Holds archive n) where
         let g = v .grown refl f in
         let is : archive₂ ≡ bufferOf (length archive) all-rows =
         sym (exact archive₂ (g .right) .0) ∙ rw (g .rows, g .long) in
-        let parked : image₂ ≡ imageOf (stateOf log) ++ drop imageLength image = rw (f, same-image) at (w .parked) in
+        let parked : image₂
+        ≡ imageOf (stateAfterLog log) ++ drop imageLength image = rw (f, same-image) at (w .parked) in
         rw (
           eq-eqb (verdict archive .number) 0 (h .right),
           le-ltb (length image) imageLength room,

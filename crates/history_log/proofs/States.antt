@@ -31,7 +31,7 @@ use Rattle.text_collect.proofs.Storing.{times-bounded}
 use Rattle.journal_model.specs.Rows.{viewAfter, viewAfterLines}
 use Rattle.journal_model.proofs.Rows.{took-all}
 use Rattle.c_lines.specs.Calls.{levelNumber, firstNumber, firstUsed}
-use Rattle.history_log.specs.Keep.{pastWith, pastFor, stateOf}
+use Rattle.history_log.specs.Keep.{pastWith, pastFor, stateAfterLog}
 use Rattle.history_log.specs.Private.{imageAt, states}
 use Rattle.history_log.proofs.Said.{out-more, out-none, out-open, out-last, level-few, first-level}
 
@@ -108,8 +108,8 @@ unfolding stateAfter
 lines-after [] = ap imageOf fresh-model
 lines-after (l ∷ ls) = first-after (settingOf l) ls
 
-pub state-whole : (log : List ℕ) → outputOf states starting log ≡ imageOf (stateOf log)
-unfolding outputOf stateOf
+pub state-whole : (log : List ℕ) → outputOf states starting log ≡ imageOf (stateAfterLog log)
+unfolding outputOf stateAfterLog
 state-whole log = rw (no-text (linesOf log) starting) (lines-after (linesOf log))
 
 -- ---- the first line of a log

@@ -43,7 +43,7 @@ use Rattle.history_log.specs.Private.{
   Callable,
   Ready,
   Turned,
-  Passed,
+  TextPassed,
   states,
   Went,
 }
@@ -96,7 +96,7 @@ module _ {write : Bool} {s₀ : Phase Receiver} {input archive₀ : List ℕ} {n
   fit-rest f = all-parts isFit (i .said) (rowsSaid s (drop at input)) (rw (i .whole) at f) .1
 
   -- nothing is left
-  pub closes : drop at input ≡ [] → Passed write (rowsSaid s₀ input) archive₀ n₀ archive
+  pub closes : drop at input ≡ [] → TextPassed write (rowsSaid s₀ input) archive₀ n₀ archive
       (record { fits = true; rows = n })
   closes e =
       let all-said : rowsSaid s₀ input ≡ i .said = i .whole ∙ rw (e, no-more s) (append-nil (i .said)) in
@@ -109,8 +109,8 @@ module _ {write : Bool} {s₀ : Phase Receiver} {input archive₀ : List ℕ} {n
       }
 
   -- the rest was gone through
-  pub ends : {archive' : List ℕ} (r : Pass) → Passed write (rowsSaid s (drop at input)) archive n archive' r
-      → Passed write (rowsSaid s₀ input) archive₀ n₀ archive' r
+  pub ends : {archive' : List ℕ} (r : Pass) → TextPassed write (rowsSaid s (drop at input)) archive n archive' r
+      → TextPassed write (rowsSaid s₀ input) archive₀ n₀ archive' r
   ends {archive'} r p =
       let rest = rowsSaid s (drop at input) in
       let size : n₀ + length (rowsSaid s₀ input) ≡ n + length rest = omega
@@ -179,7 +179,7 @@ module _ {write : Bool} {s₀ : Phase Receiver} {input archive₀ : List ℕ} {n
       ∙ state-more (phaseAt setting s) (phaseAt setting s') text (drop (r .used) d) (t .timed)
       ∙ ap (outputOf states (phaseAt setting s')) (drop-drop (r .used) at input)
 
-  pub too-full : (rows : ℕ) → r .fits ≡ false → Passed write (rowsSaid s₀ input) archive₀ n₀ archive'
+  pub too-full : (rows : ℕ) → r .fits ≡ false → TextPassed write (rowsSaid s₀ input) archive₀ n₀ archive'
       (record { fits = false; rows = rows })
   too-full rows e =
       let over = leb-false (n + r .rows) (capacityOf (length archive)) (sym (t .fits) ∙ e) in
@@ -278,7 +278,7 @@ module _ {write : Bool} {s s' : Arrays} {setting : ℕ} {line archive archive' :
       (open-front lineLimit line o) (t .within) (t .timed) (t .rest) in
       drop-of-length-le ended {i = 0 + r .used} (omega arith)
 
-  last-passed : Passed write (rowsSaid (phaseAt setting s) line) archive n archive'
+  last-passed : TextPassed write (rowsSaid (phaseAt setting s) line) archive n archive'
       (record { fits = r .fits; rows = n + r .rows })
   last-passed =
       rw same-said

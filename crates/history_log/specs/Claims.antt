@@ -9,7 +9,7 @@ use Rattle.collector_model.specs.Image.{imageLength, imageOf}
 use Rattle.archive_model.specs.Buffer.{maxBlocks, archiveOf, rowsIn}
 use Rattle.archive_model.specs.Append.{verdict}
 use Rattle.history_archived.specs.Archived.{archivedOf}
-use Rattle.history_log.specs.Keep.{stateOf, keepOf}
+use Rattle.history_log.specs.Keep.{stateAfterLog, keepOf}
 
 -- From nothing: m blocks of zeros end as the archive of the reference model's KEPT and LOOSE receptions, with zeros behind
 -- it, and the image is that of the model's collector.
@@ -23,7 +23,7 @@ FreshKept =
       position = 0;
       rows = length (archivedOf log);
       archive = padded (blockLength * m) (archiveOf (archivedOf log));
-      image = imageOf (stateOf log) ++ drop imageLength image;
+      image = imageOf (stateAfterLog log) ++ drop imageLength image;
     }
 
 -- Read back: where the number is 0, what is left is an archive of the rows that were there and the reference model's, in

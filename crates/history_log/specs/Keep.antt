@@ -31,8 +31,8 @@ abbrev pub pastFor : List (List ℕ) → List Reception
 pastFor [] = []
 pastFor (l ∷ ls) = pastWith (settingOf l) ls
 
-unfoldable pub stateOf : List ℕ → View
-stateOf log = modelView (logOf (pastFor (linesOf log)))
+unfoldable pub stateAfterLog : List ℕ → View
+stateAfterLog log = modelView (logOf (pastFor (linesOf log)))
 
 -- ---- what is left
 
@@ -48,8 +48,8 @@ pub record Keeping : Type 0 where
   pub archive : List ℕ
   pub image : List ℕ
 
-abbrev pub keptOf : Kept → List ℕ → List ℕ → Keeping
-keptOf r archive image =
+abbrev pub keepingOf : Kept → List ℕ → List ℕ → Keeping
+keepingOf r archive image =
     record { number = r .number; position = r .position; rows = r .rows; archive = archive; image = image }
 
 -- a refusal, beside which both are as they were
@@ -71,5 +71,5 @@ keepOf log archive image =
       position = 0;
       rows = length rows;
       archive = bufferOf (length archive) rows;
-      image = imageOf (stateOf log) ++ drop imageLength image;
+      image = imageOf (stateAfterLog log) ++ drop imageLength image;
     })))

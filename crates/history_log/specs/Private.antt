@@ -29,7 +29,7 @@ use Rattle.history_archived.specs.Claims.{rowsSaid}
 use Rattle.c_collector.specs.State.{Arrays, stateAt}
 use Rattle.history_log.specs.declared.Pass.{Pass}
 use Rattle.history_log.specs.declared.Turn.{Turn}
-use Rattle.history_log.specs.Keep.{stateOf, capacityOf}
+use Rattle.history_log.specs.Keep.{stateAfterLog, capacityOf}
 
 -- ---- the archive
 
@@ -99,7 +99,7 @@ pub record Turned (write : Bool) (s : Arrays) (setting : ℕ) (input archive : L
       archive
 
 -- a text was gone through: its rows stand in the archive where they were to be, and fit
-pub record Passed (write : Bool) (rows : List Row) (archive : List ℕ) (n : ℕ) (archive' : List ℕ)
+pub record TextPassed (write : Bool) (rows : List Row) (archive : List ℕ) (n : ℕ) (archive' : List ℕ)
     (r : Pass) : Type 0 where
   pub fits : r .fits ≡ leb (n + length rows) (capacityOf (length archive))
   pub count : r .fits ≡ true → r .rows ≡ n + length rows
@@ -122,19 +122,19 @@ states = record { next = nextPhase modelCollector; text = λ s l. []; end = imag
 pub record Went (write : Bool) (s : Arrays) (setting : ℕ) (input archive : List ℕ) (n : ℕ) (s' : Arrays)
     (archive' : List ℕ)
     (r : Pass) : Type 0 where
-  pub passed : Passed write (rowsSaid (phaseAt setting s) input) archive n archive' r
+  pub passed : TextPassed write (rowsSaid (phaseAt setting s) input) archive n archive' r
   pub left : r .fits ≡ true → outputOf states (phaseAt setting s) input ≡ imageOf (stateAt s')
   pub accepted : r .fits ≡ true → acceptable (stateAt s') ≡ true
 
 -- a log was gone through by a fresh collector
-pub record Logged (write : Bool) (log archive : List ℕ) (n : ℕ) (s' : Arrays) (archive' : List ℕ)
+pub record LogPassed (write : Bool) (log archive : List ℕ) (n : ℕ) (s' : Arrays) (archive' : List ℕ)
     (r : Pass) : Type 0 where
-  pub passed : Passed write (archivedOf log) archive n archive' r
-  pub left : r .fits ≡ true → imageOf (stateAt s') ≡ imageOf (stateOf log)
+  pub passed : TextPassed write (archivedOf log) archive n archive' r
+  pub left : r .fits ≡ true → imageOf (stateAt s') ≡ imageOf (stateAfterLog log)
   pub accepted : r .fits ≡ true → acceptable (stateAt s') ≡ true
 
 -- a log was gone through, and the image is written where it was to be, and the rows fit
 pub record WentThrough (write : Bool) (log archive : List ℕ) (n : ℕ) (image archive' image' : List ℕ)
     (r : Pass) : Type 0 where
-  pub passed : Passed write (archivedOf log) archive n archive' r
-  pub parked : image' ≡ cond (write && r .fits) (imageOf (stateOf log) ++ drop imageLength image) image
+  pub passed : TextPassed write (archivedOf log) archive n archive' r
+  pub parked : image' ≡ cond (write && r .fits) (imageOf (stateAfterLog log) ++ drop imageLength image) image

@@ -23,8 +23,8 @@ ghost use Rattle.text_lines.specs.Ascii.{newline};
 ghost use Rattle.text_lines.specs.Reading.{lineLimit};
 ghost use Rattle.text_program.specs.Buffer.{isUnended};
 ghost use Rattle.c_collector.specs.State.{arrays, stateAt};
-ghost use Rattle.history_log.specs.Keep.{keptOf, keepOf};
-ghost use Rattle.history_log.specs.Private.{textLength, putIn, Holds, Ready, Callable, Turned, Went, Logged, WentThrough};
+ghost use Rattle.history_log.specs.Keep.{keepingOf, keepOf};
+ghost use Rattle.history_log.specs.Private.{textLength, putIn, Holds, Ready, Callable, Turned, Went, LogPassed, WentThrough};
 
 // Room for the text of 15 lines, which is not used.
 const TEXT: usize = 4096;
@@ -58,7 +58,7 @@ pub(crate) struct Turn {
 // Puts the rows of a log behind those of an archive, and the image of the collector then into the first 2,560 bytes of `image`: 16, 12 with the
 // position; 6 where one of them has no room; then both are as they were.
 pub fn keep(log: &[u8], archive: &mut [u8], image: &mut [u8]) -> Kept
-    ensures { λ r. ⌜ keptOf r (now (archive .exit)) (now (image .exit))
+    ensures { λ r. ⌜ keepingOf r (now (archive .exit)) (now (image .exit))
         ≡ keepOf (now (log .entry)) (now (archive .entry)) (now (image .entry)) ⌝ }
 {
     let mut rows: usize = 0;
@@ -149,7 +149,7 @@ fn take_log(
 ) -> Pass
     requires { ⌜ (stateAt (arrays (now times) (now lengths) (now bytes) (now copies) (now numbers)) ≡ fresh)
         × Holds (now archive) n ⌝ }
-    ensures { λ r. ⌜ Logged write (now (log .entry)) (now (archive .entry)) n
+    ensures { λ r. ⌜ LogPassed write (now (log .entry)) (now (archive .entry)) n
         (arrays (now (times .exit)) (now (lengths .exit)) (now (bytes .exit)) (now (copies .exit))
         (now (numbers .exit)))
         (now (archive .exit)) r ⌝ }

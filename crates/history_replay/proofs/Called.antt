@@ -15,7 +15,7 @@ use Rattle.block_layout.specs.BigEndian.{be}
 use Rattle.collector_model.specs.declared.Totals.{Totals}
 use Rattle.collector_model.specs.Answer.{Shown, shownOf, shownNumber}
 use Rattle.collector_model.specs.View.{Reception, View, fresh}
-use Rattle.collector_model.specs.Step.{Outcome, step, sentFor}
+use Rattle.collector_model.specs.Step.{StepOutcome, step, sentFor}
 use Rattle.collector_model.specs.Image.{CheckpointResult, RestoreResult, imageLength, checkpointOf, restoreOf}
 use Rattle.collector_model.specs.Burst.{Replied, BurstResult, burstOf}
 use Rattle.collector_model.specs.Heard.{copiesOf}
@@ -23,17 +23,18 @@ use Rattle.collector_model.specs.History.{Call, Receive, Checkpoint, Restore, C
 use Rattle.collector_state.specs.declared.Collector.{Collector}
 use Rattle.collector_state.specs.declared.Taken.{Taken}
 use Rattle.collector_state.specs.declared.Heard.{Heard}
-use Rattle.collector_state.specs.Collector.{viewOf, outcomeOf, IsFresh}
+use Rattle.collector_state.specs.Collector.{viewOf, stepOutcomeOf, IsFresh}
 use Rattle.collector_state.specs.Collector as collector
-use Rattle.collector_state.specs.Heard.{askedNumber, heardOf}
+use Rattle.collector_state.specs.Heard.{heardOf}
 use Rattle.collector_checkpoint.specs.declared.Restored as loaded
 use Rattle.collector_checkpoint.specs.Checkpoint as images
 use Rattle.collector_burst.specs.declared.Within.{Within}
-use Rattle.collector_burst.specs.Records.{handedNumber, repliedOf, burstedOf}
+use Rattle.base_refusal.specs.Number.{outcomeNumber}
+use Rattle.collector_burst.specs.Records.{repliedOf, burstedOf}
 use Rattle.c_collector.specs.State.{Arrays, stateAt, arraysOf}
 use Rattle.c_collector.specs.Calls.{Takes, Fresh, totalsCall, copiesCall}
 use Rattle.c_checkpoint.specs.Calls.{Restores}
-use Rattle.history_calls.specs.Answers.{formIn, shownWith, shownIn, repliesIn, totalsIn}
+use Rattle.history_calls.specs.Answers.{formIn, shownWith, shownIn, repliesInPlaces, totalsInValues}
 use Rattle.history_calls.specs.Elements.{arraysAfter}
 use Rattle.history_calls.proofs.Follow as follow
 use Rattle.history_calls.proofs.Elements as elements
@@ -61,7 +62,7 @@ made-as {s} {s'} {setting} {n} {old} {new} e k =
 
 pub totals-done : (s : Arrays) (old values : List ℕ) (number : ℕ) (n : Totals)
     → record { number = number; values = values } ≡ totalsCall (stateAt s) old
-    → number ≡ 0 → n ≡ totalsIn values → n ≡ stateAt s .totals
+    → number ≡ 0 → n ≡ totalsInValues values → n ≡ stateAt s .totals
 totals-done s old values number n e z is =
     follow.totals-seen {s = s} (record { old = old; values = values; number = number; called = e; seen = is ∙ rw z })
 
@@ -110,23 +111,24 @@ module _ {s s' : Arrays} {n : ℕ} {t : Totals} {exit : List ℕ} (seen : t ≡ 
 
   pub delivered : (setting : ℕ) (rs : List Reception) (old new : List ℕ) (places : List Replied) (m : ℕ)
       → BurstMade s setting rs old n s' new
-      → repliesIn old ≡ places → length (repliesIn new) ≡ m
-      → exit ≡ headOf delivering n t ++ be 8 m ++ flatten (map replyOf (repliesIn new))
+      → repliesInPlaces old ≡ places → length (repliesInPlaces new) ≡ m
+      → exit ≡ headOf delivering n t ++ be 8 m ++ flatten (map replyOf (repliesInPlaces new))
       → Called s (Burst setting rs places) exit s'
   unfolding seenBytes
   delivered setting rs old new places m k e long put = record {
     bytes =
         put
-        ∙ ap₂ (λ (x : Totals) (y : ℕ). headOf delivering n x ++ be 8 y ++ flatten (map replyOf (repliesIn new)))
+        ∙ ap₂ (λ (x : Totals) (y : ℕ). headOf delivering n x ++ be 8 y ++ flatten (map replyOf (repliesInPlaces new)))
         seen
         (sym long)
         ∙ making.delivered (stateAt s) setting rs places
-        (record { number = n; replies = repliesIn new; next = stateAt s' }) is;
+        (record { number = n; replies = repliesInPlaces new; next = stateAt s' }) is;
     state = ap (λ (b : BurstResult). b .next) is;
     elements = k .elements ∙ ap (λ (l : List Replied). arraysAfter s (Burst setting rs l)) e;
   }
     where
-      is : record { number = n; replies = repliesIn new; next = stateAt s' } ≡ burstOf setting (stateAt s) rs places
+      is : record { number = n; replies = repliesInPlaces new; next = stateAt s' }
+          ≡ burstOf setting (stateAt s) rs places
       is = k .result ∙ ap (burstOf setting (stateAt s) rs) e
 
 module _ {s : Arrays} {exit : List ℕ} where
@@ -189,14 +191,14 @@ module _ {c : Collector} {exit : List ℕ} where
   received-value {r} {t} setting k sent form number e f g put = record {
     bytes =
         put
-        ∙ making.answered (viewOf c) setting r (outcomeOf t) sent form number
+        ∙ making.answered (viewOf c) setting r (stepOutcomeOf t) sent form number
         (t .next .summary .totals) (k .outcome) e f g refl;
-    state = ap (λ (o : Outcome). o .next) (k .outcome);
+    state = ap (λ (o : StepOutcome). o .next) (k .outcome);
     elements = elements.took-value setting k;
   }
 
   pub restored-value : {image : List ℕ} {q : loaded.Restored} → images.Restores c image q
-      → exit ≡ headOf restoring (images.loadedNumber (q .answer)) (q .next .summary .totals)
+      → exit ≡ headOf restoring (outcomeNumber (q .answer)) (q .next .summary .totals)
       → Called (arraysOf c) (Restore image) exit (arraysOf (q .next))
   unfolding viewOf seenBytes
   restored-value {image} {q} k put = record {
@@ -210,7 +212,7 @@ module _ {c : Collector} {exit : List ℕ} where
       → images.Restores d (take imageLength after) q
       → exit
       ≡ seenBytes (wroteOf (viewOf c) output)
-      ++ headOf restoring (images.loadedNumber (q .answer)) (q .next .summary .totals)
+      ++ headOf restoring (outcomeNumber (q .answer)) (q .next .summary .totals)
       → Called (arraysOf c) (Cut output) exit (arraysOf (q .next))
   unfolding viewOf seenBytes
   resumed-value output after {d} {q} w f k put = record {
@@ -225,7 +227,7 @@ module _ {c : Collector} {exit : List ℕ} where
   pub delivered-value : (setting : ℕ) (rs : List Reception) (places : List Replied) (m : ℕ) {w : Within}
       → BurstGiven c setting rs places m w
       → length (map repliedOf (take m (w .replies))) ≡ m
-      → exit ≡ headOf delivering (handedNumber (w .bursted .answer)) (w .bursted .next .summary .totals) ++ be 8 m
+      → exit ≡ headOf delivering (outcomeNumber (w .bursted .answer)) (w .bursted .next .summary .totals) ++ be 8 m
       ++ flatten (map replyOf (map repliedOf (take m (w .replies))))
       → Called (arraysOf c) (Burst setting rs places) exit (arraysOf (w .bursted .next))
   unfolding viewOf seenBytes
@@ -233,7 +235,7 @@ module _ {c : Collector} {exit : List ℕ} where
     bytes =
         let l = map repliedOf (take m (w .replies)) in
         put
-        ∙ ap (λ (y : ℕ). headOf delivering (handedNumber (w .bursted .answer)) (w .bursted .next .summary .totals)
+        ∙ ap (λ (y : ℕ). headOf delivering (outcomeNumber (w .bursted .answer)) (w .bursted .next .summary .totals)
         ++ be 8 y ++ flatten (map replyOf l))
         (sym long)
         ∙ making.delivered (viewOf c) setting rs places (burstedOf (w .bursted) (take m (w .replies))) (k .result);
@@ -242,7 +244,7 @@ module _ {c : Collector} {exit : List ℕ} where
   }
 
   pub heard-value : (k : ℕ) (a : Heard) → heardOf a ≡ copiesOf (viewOf c) k
-      → exit ≡ headOf asking (askedNumber (a .answer)) (c .summary .totals) ++ be 8 (a .copies)
+      → exit ≡ headOf asking (outcomeNumber (a .answer)) (c .summary .totals) ++ be 8 (a .copies)
       → Called (arraysOf c) (Ask k) exit (arraysOf c)
   unfolding viewOf seenBytes
   heard-value k a e put =

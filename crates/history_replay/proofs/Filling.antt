@@ -20,7 +20,7 @@ use Rattle.collector_burst.specs.declared.Reception.{Reception}
 use Rattle.collector_burst.specs.declared.Reply.{Reply}
 use Rattle.collector_burst.specs.Records.{listed, receptionOf, repliedOf}
 use Rattle.history_replay_model.specs.Record.{replyOf}
-use Rattle.history_replay.specs.Calls.{callLength, recordAt, numberAt, countIn, burstReceptionIn, receptionsIn, placeIn}
+use Rattle.history_replay.specs.Calls.{callLength, recordAt, numberAt, recordCount, burstReceptionIn, burstReceptionsIn, placeIn}
 
 -- ---- elements that are read one after the other; d stands for one past the end
 
@@ -88,10 +88,10 @@ map-same [] = refl
 map-same (n ∷ l) = ap (λ (k : List ℕ). n ∷ k) (map-same l)
 
 -- as many as the bytes say
-pub receptions-are : (s : List ℕ) (all : List Reception) (n : ℕ) → n ≡ countIn s
+pub receptions-are : (s : List ℕ) (all : List Reception) (n : ℕ) → n ≡ recordCount s
     → map receptionOf (take n all) ≡ map (receptionAt s) (upFrom 0 n)
-    → map receptionOf (take n all) ≡ receptionsIn s
-unfolding receptionsIn
+    → map receptionOf (take n all) ≡ burstReceptionsIn s
+unfolding burstReceptionsIn
 receptions-are s all n e h = h ∙ ap (λ (k : ℕ). map (receptionAt s) (upFrom 0 k)) e
 
 -- ---- places

@@ -30,12 +30,12 @@ use Rattle.c_layout.specs.Frame.{frameLength}
 use Rattle.c_collector.specs.State.{Arrays, stateAt}
 use Rattle.c_burst.specs.Bytes as c_burst
 use Rattle.c_burst.specs.Calls.{Bursts}
-use Rattle.history_calls.specs.Answers.{shownWith, repliedIn, repliesIn}
+use Rattle.history_calls.specs.Answers.{shownWith, repliedIn, repliesInPlaces}
 use Rattle.history_calls.specs.Elements.{arraysAfter}
 use Rattle.history_calls.proofs.Bursts.{none, replies-count, reply-at, bursts-are}
 use Rattle.history_calls.proofs.Elements.{bursted}
 use Rattle.history_replay_model.specs.Record.{formOf, replyOf}
-use Rattle.history_replay.specs.Calls.{callLength, recordAt, numberAt, countIn, receptionsIn, placeIn}
+use Rattle.history_replay.specs.Calls.{callLength, recordAt, numberAt, recordCount, burstReceptionsIn, placeIn}
 use Rattle.history_replay.specs.Private.{frameIn, placeBytes, replyCell, BurstMade}
 use Rattle.history_replay.proofs.Records.{field-lent}
 
@@ -110,8 +110,8 @@ module _ (s : List ℕ) (n : ℕ) where
     pub frames-length : length (flatten frames) ≡ frameLength * n
     frames-length = flatten-length frameLength frames each ∙ ap (λ k. frameLength * k) frames-count
 
-    pub receptions-lent : n ≡ countIn s → c_burst.receptionsIn moments (flatten frames) ≡ receptionsIn s
-    unfolding c_burst.receptionsIn receptionsIn
+    pub receptions-lent : n ≡ recordCount s → c_burst.receptionsIn moments (flatten frames) ≡ burstReceptionsIn s
+    unfolding c_burst.receptionsIn burstReceptionsIn
     receptions-lent e =
         ap (λ k. map (λ i. c_burst.receptionIn (part (frameLength * i) frameLength (flatten frames)) (getD moments i 0))
         (upFrom 0 k))
@@ -150,18 +150,18 @@ module _ (r : List ℕ) (m : ℕ) (whole : length r ≡ callLength) where
   pub old-length : length (flatten (old r m)) ≡ c_burst.replyLength * m
   old-length = flatten-length c_burst.replyLength (old r m) each-old ∙ ap (λ k. c_burst.replyLength * k) (old-count r m)
 
-  pub places-lent : repliesIn (flatten (old r m)) ≡ replicate m (placeIn r)
+  pub places-lent : repliesInPlaces (flatten (old r m)) ≡ replicate m (placeIn r)
   places-lent =
-      ext-getD none (repliesIn bytes) (replicate m (placeIn r)) (count ∙ sym (length-replicate m (placeIn r)))
+      ext-getD none (repliesInPlaces bytes) (replicate m (placeIn r)) (count ∙ sym (length-replicate m (placeIn r)))
       (λ i h. same i (omega (arith, count)))
     where
       room : length bytes / c_burst.replyLength ≡ m
       room = omega (arith, old-length)
 
-      count : length (repliesIn bytes) ≡ m
+      count : length (repliesInPlaces bytes) ≡ m
       count = replies-count bytes ∙ room
 
-      same : (i : ℕ) → i < m → getD (repliesIn bytes) i none ≡ getD (replicate m (placeIn r)) i none
+      same : (i : ℕ) → i < m → getD (repliesInPlaces bytes) i none ≡ getD (replicate m (placeIn r)) i none
       same i h =
           reply-at bytes i (omega (arith, room))
           ∙ ap repliedIn
@@ -176,7 +176,7 @@ front n l =
     let e : n - 0 ≡ n = omega arith in
     rw e
 
-module _ (records : List ℕ) (n : ℕ) (e : n ≡ countIn records) where
+module _ (records : List ℕ) (n : ℕ) (e : n ≡ recordCount records) where
   whole-records : callLength * n ≤ length records
   whole-records = omega (arith, e)
 
@@ -188,10 +188,12 @@ module _ (records : List ℕ) (n : ℕ) (e : n ≡ countIn records) where
   pub made : {s s' : Arrays} {setting k : ℕ} {old new : List ℕ} (ms fs : List ℕ)
       → take n ms ≡ moments records n → take (frameLength * n) fs ≡ flatten (frames records n)
       → Bursts s setting (part 0 (n - 0) ms) (part 0 (frameLength * n - 0) fs) old k s' new
-      → BurstMade s setting (receptionsIn records) old k s' new
+      → BurstMade s setting (burstReceptionsIn records) old k s' new
   made {s} {s'} {setting} {k} {old} {new} ms fs f g b = record {
-    result = bursts-are sized is ∙ ap (λ (rs : List Reception). burstOf setting (stateAt s) rs (repliesIn old)) said;
-    elements = bursted sized is ∙ ap (λ (rs : List Reception). arraysAfter s (Burst setting rs (repliesIn old))) said;
+    result = bursts-are sized is
+        ∙ ap (λ (rs : List Reception). burstOf setting (stateAt s) rs (repliesInPlaces old)) said;
+    elements = bursted sized is
+        ∙ ap (λ (rs : List Reception). arraysAfter s (Burst setting rs (repliesInPlaces old))) said;
   }
     where
       is : Bursts s setting (moments records n) (flatten (frames records n)) old k s' new
@@ -199,7 +201,7 @@ module _ (records : List ℕ) (n : ℕ) (e : n ≡ countIn records) where
           (subst (λ (l : List ℕ). Bursts s setting (part 0 (n - 0) ms) l old k s' new)
           (front (frameLength * n) fs ∙ g) b)
 
-      said : c_burst.receptionsIn (moments records n) (flatten (frames records n)) ≡ receptionsIn records
+      said : c_burst.receptionsIn (moments records n) (flatten (frames records n)) ≡ burstReceptionsIn records
       said = receptions-lent records n whole-records e
 
 -- ---- the front of a list, lent and come back
@@ -220,7 +222,7 @@ module _ (n : ℕ) (xs ys : List ℕ) (room : n ≤ length xs) (kept : length ys
 -- ---- the places, as they are written
 
 abbrev pub cells : List ℕ → List (List ℕ)
-cells places = map replyOf (repliesIn places)
+cells places = map replyOf (repliesInPlaces places)
 
 -- one place: its bytes in the record
 pub place-cell : (place : List ℕ) → length place ≡ c_burst.replyLength → (form len : ℕ) (bytes : List ℕ)
@@ -238,14 +240,14 @@ module _ (places : List ℕ) (m : ℕ) (whole : length places ≡ c_burst.replyL
   room : length places / c_burst.replyLength ≡ m
   room = omega arith
 
-  pub count : length (repliesIn places) ≡ m
+  pub count : length (repliesInPlaces places) ≡ m
   count = replies-count places ∙ room
 
   pub cells-count : length (cells places) ≡ m
-  cells-count = length-map (repliesIn places) replyOf ∙ count
+  cells-count = length-map (repliesInPlaces places) replyOf ∙ count
 
   pub cell-at : (i : ℕ) → i < m
       → getD (cells places) i [] ≡ replyOf (repliedIn (part (c_burst.replyLength * i) c_burst.replyLength places))
   cell-at i h =
-      getD-map replyOf (repliesIn places) i none [] (omega (arith, count))
+      getD-map replyOf (repliesInPlaces places) i none [] (omega (arith, count))
       ∙ ap replyOf (reply-at places i (omega (arith, room)))

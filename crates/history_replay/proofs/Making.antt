@@ -16,7 +16,7 @@ use Rattle.base_buffers.proofs.Segments.{part-length, part-ends, take-clamped, 
 use Rattle.collector_model.specs.declared.Totals.{Totals}
 use Rattle.collector_model.specs.View.{Reception, View, fresh}
 use Rattle.collector_model.specs.Answer.{shownNumber}
-use Rattle.collector_model.specs.Step.{Outcome, step, sentFor}
+use Rattle.collector_model.specs.Step.{StepOutcome, step, sentFor}
 use Rattle.collector_model.specs.Image.{CheckpointResult, RestoreResult, imageLength, checkpointOf, restoreOf}
 use Rattle.collector_model.specs.Burst.{Replied, BurstResult, burstOf}
 use Rattle.collector_model.specs.Heard.{HeardResult, copiesOf}
@@ -30,7 +30,7 @@ use Rattle.history_replay.specs.Private.{wroteOf, replyCell}
 
 module _ (v : View) where
   -- by the form and the number of the answer
-  pub answered : (setting : ℕ) (r : Reception) (o : Outcome) (sent : Frame) (form number : ℕ) (n : Totals)
+  pub answered : (setting : ℕ) (r : Reception) (o : StepOutcome) (sent : Frame) (form number : ℕ) (n : Totals)
       → o ≡ step v r → sent ≡ sentFor setting (o .answer) r → form ≡ formOf (o .answer)
       → number ≡ shownNumber (o .answer) → n ≡ o .next .totals
       → headOf receiving number n ++ replyCell form number sent ≡ recordOf (run v (Receive setting r ∷ []))
@@ -38,7 +38,7 @@ module _ (v : View) where
   answered setting r o sent form number n e f g k t =
       ap₂ (λ (x y : ℕ). headOf receiving y n ++ replyCell x y sent) g k
       ∙ ap₂ (λ (s : Frame) (m : Totals). seenBytes (Answered (o .answer) s m)) f t
-      ∙ ap (λ (p : Outcome). seenBytes (Answered (p .answer) (sentFor setting (p .answer) r) (p .next .totals))) e
+      ∙ ap (λ (p : StepOutcome). seenBytes (Answered (p .answer) (sentFor setting (p .answer) r) (p .next .totals))) e
       ∙ record-one _
 
   pub loaded : (image : List ℕ) (q : RestoreResult) → q ≡ restoreOf v image

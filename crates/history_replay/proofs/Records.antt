@@ -28,7 +28,7 @@ use Rattle.collector_model.specs.History.{Receive, Checkpoint, Restore, Cut, Bu
 use Rattle.history_replay_model.specs.Operation.{receiving, saving, cutting, restoring, delivering, asking}
 use Rattle.history_replay_model.specs.Replay.{callSize, sizeOfAll}
 use Rattle.history_replay_model.proofs.Sizes.{size-append}
-use Rattle.history_replay.specs.Calls.{callLength, recordAt, settingIn, receptionIn, outputIn, lentIn, receptionsIn, placesIn, entryIn, callIn, callsIn}
+use Rattle.history_replay.specs.Calls.{callLength, recordAt, callSetting, callReception, outputIn, lentIn, burstReceptionsIn, placesIn, askedEntry, callIn, callsIn}
 
 -- ---- the fields of a record
 
@@ -72,7 +72,7 @@ window-is s a n x y e f =
 -- ---- which call a record says
 
 module _ (lent r : List ℕ) where
-  pub call-receive : getD r 0 0 ≡ receiving → callIn lent r ≡ Receive (settingIn r) (receptionIn r)
+  pub call-receive : getD r 0 0 ≡ receiving → callIn lent r ≡ Receive (callSetting r) (callReception r)
   unfolding callIn
   call-receive e = rw e
 
@@ -89,11 +89,11 @@ module _ (lent r : List ℕ) where
   call-restore e = rw e
 
   pub call-burst : getD r 0 0 ≡ delivering
-      → callIn lent r ≡ Burst (settingIn r) (receptionsIn (lentIn lent r)) (placesIn r)
+      → callIn lent r ≡ Burst (callSetting r) (burstReceptionsIn (lentIn lent r)) (placesIn r)
   unfolding callIn
   call-burst e = rw e
 
-  pub call-ask : getD r 0 0 ≡ asking → callIn lent r ≡ Ask (entryIn r)
+  pub call-ask : getD r 0 0 ≡ asking → callIn lent r ≡ Ask (askedEntry r)
   unfolding callIn
   call-ask e = rw e
 

@@ -21,7 +21,7 @@ use Rattle.history_replay_model.specs.Record.{recordOf}
 use Rattle.history_replay_model.specs.Replay.{afterCall, afterCalls, callSize, sizeOfAll, putRecord}
 use Rattle.history_replay_model.proofs.Parts.{after-append, in-parts}
 use Rattle.history_replay_model.proofs.Sizes.{sized, size-append, size-part}
-use Rattle.history_replay.specs.declared.Ran.the-variants.{Done, Refused}
+use Rattle.base_refusal.specs.declared.Outcome.the-variants.{Done, Refused}
 use Rattle.history_replay.specs.declared.Replayed.{Replayed}
 use Rattle.history_replay.specs.Calls.{callLength, callIn, callsIn, recordAt}
 use Rattle.history_replay.specs.Replay.{replayedOf, Resumes, Replays}

@@ -31,12 +31,12 @@ numberAt a r = unbe (part a 8 r)
 -- ---- the record of each call
 
 -- the caller's setting, in the last byte
-abbrev pub settingIn : List ℕ → ℕ
-settingIn r = getD r 63 0
+abbrev pub callSetting : List ℕ → ℕ
+callSetting r = getD r 63 0
 
 -- a reception: the time in 1 to 8, a length in 9, and that many of the 53 bytes from 10 on
-abbrev pub receptionIn : List ℕ → Reception
-receptionIn r = record { bytes = take (getD r 9 0) (part 10 53 r); time = numberAt 1 r }
+abbrev pub callReception : List ℕ → Reception
+callReception r = record { bytes = take (getD r 9 0) (part 10 53 r); time = numberAt 1 r }
 
 -- an output: its length in 1 to 8, at most 4,096; each of its bytes has the value in 9
 abbrev pub maxOutput : ℕ
@@ -55,12 +55,12 @@ abbrev pub burstReceptionIn : List ℕ → Reception
 burstReceptionIn r = record { bytes = resized (getD r 9 0) (part 10 maxLength r); time = numberAt 1 r }
 
 -- how many whole records there are, up to the length of a list that is held by value
-abbrev pub countIn : List ℕ → ℕ
-countIn bytes = min (length bytes / callLength) listed
+abbrev pub recordCount : List ℕ → ℕ
+recordCount bytes = min (length bytes / callLength) listed
 
 -- the receptions of a burst, from its records
-unfoldable pub receptionsIn : List ℕ → List Reception
-receptionsIn bytes = map (λ (i : ℕ). burstReceptionIn (recordAt bytes i)) (upFrom 0 (countIn bytes))
+unfoldable pub burstReceptionsIn : List ℕ → List Reception
+burstReceptionsIn bytes = map (λ (i : ℕ). burstReceptionIn (recordAt bytes i)) (upFrom 0 (recordCount bytes))
 
 -- what each entry of the list of replies holds before a burst: the form of an answer in 25, the length of a telegram in
 -- 26, and its bytes from 27 on
@@ -72,20 +72,20 @@ abbrev pub placesIn : List ℕ → List Replied
 placesIn r = replicate (min (numberAt 17 r) listed) (placeIn r)
 
 -- an ask: the entry in 1 to 8, counted from 0
-abbrev pub entryIn : List ℕ → ℕ
-entryIn r = numberAt 1 r
+abbrev pub askedEntry : List ℕ → ℕ
+askedEntry r = numberAt 1 r
 
 -- ---- the calls
 
 -- byte 0 says which call it is
 unfoldable pub callIn : List ℕ → List ℕ → Call
 callIn lent r =
-    cond (eqb (getD r 0 0) receiving) (Receive (settingIn r) (receptionIn r))
+    cond (eqb (getD r 0 0) receiving) (Receive (callSetting r) (callReception r))
     (cond (eqb (getD r 0 0) saving) (Checkpoint (outputIn r))
     (cond (eqb (getD r 0 0) cutting) (Cut (outputIn r))
     (cond (eqb (getD r 0 0) restoring) (Restore (lentIn lent r))
-    (cond (eqb (getD r 0 0) delivering) (Burst (settingIn r) (receptionsIn (lentIn lent r)) (placesIn r))
-    (cond (eqb (getD r 0 0) asking) (Ask (entryIn r))
+    (cond (eqb (getD r 0 0) delivering) (Burst (callSetting r) (burstReceptionsIn (lentIn lent r)) (placesIn r))
+    (cond (eqb (getD r 0 0) asking) (Ask (askedEntry r))
     Look)))))
 
 -- the calls of all whole records

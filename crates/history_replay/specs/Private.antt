@@ -16,7 +16,7 @@ use Rattle.collector_state.specs.Collector.{viewOf}
 use Rattle.collector_burst.specs.declared.Within.{Within}
 use Rattle.collector_burst.specs.Records.{burstedOf}
 use Rattle.c_collector.specs.State.{Arrays, stateAt, arraysOf}
-use Rattle.history_calls.specs.Answers.{repliesIn}
+use Rattle.history_calls.specs.Answers.{repliesInPlaces}
 use Rattle.history_calls.specs.Elements.{arraysAfter}
 use Rattle.history_replay_model.specs.Record.{recordOf}
 use Rattle.history_replay_model.specs.Replay.{afterCall}
@@ -47,8 +47,9 @@ placeBytes r = getD r 25 0 ∷ 0 ∷ getD r 26 0 ∷ part 27 maxLength r
 
 -- a burst of these receptions, with the list of replies before and after it
 pub record BurstMade (s : Arrays) (setting : ℕ) (rs : List Reception) (old : List ℕ) (n : ℕ) (s' : Arrays) (new : List ℕ) : Type 0 where
-  pub result : record { number = n; replies = repliesIn new; next = stateAt s' } ≡ burstOf setting (stateAt s) rs (repliesIn old)
-  pub elements : s' ≡ arraysAfter s (Burst setting rs (repliesIn old))
+  pub result : record { number = n; replies = repliesInPlaces new; next = stateAt s' }
+      ≡ burstOf setting (stateAt s) rs (repliesInPlaces old)
+  pub elements : s' ≡ arraysAfter s (Burst setting rs (repliesInPlaces old))
 
 -- the same by value, with the first m entries
 pub record BurstGiven (c : Collector) (setting : ℕ) (rs : List Reception) (places : List Replied) (m : ℕ) (w : Within) : Type 0 where

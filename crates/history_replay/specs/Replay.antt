@@ -4,31 +4,25 @@
 use Prim.Native.Nat.{ℕ}
 use mathlib.Core.Path.{_≡_}
 use mathlib.Core.List.{List, []}
-use Rattle.base_refusal.specs.Number.{numberOf}
+use Rattle.base_refusal.specs.Number.{outcomeNumber}
 use Rattle.radio_telegram.specs.Output.{Result}
 use Rattle.collector_model.specs.History.{Call, IsHistory, run, expected, uncut, common}
 use Rattle.c_collector.specs.State.{Arrays, stateAt}
 use Rattle.history_calls.specs.Elements.{freshArrays, arraysAfterAll}
 use Rattle.history_replay_model.specs.Record.{recordOf}
 use Rattle.history_replay_model.specs.Replay.{afterCalls, putRecord, madeBy}
-use Rattle.history_replay.specs.declared.Ran.{Ran}
-use Rattle.history_replay.specs.declared.Ran.the-variants.{Done, Refused}
 use Rattle.history_replay.specs.declared.Replayed.{Replayed}
-
-abbrev pub ranNumber : Ran → ℕ
-ranNumber Done = 0
-ranNumber (Refused why) = numberOf why
 
 -- the number, how many bytes are written, and every byte of the output after the call
 abbrev pub replayedOf : Replayed → List ℕ → Result
-replayedOf r output = record { number = ranNumber (r .answer); len = r .written; output = output }
+replayedOf r output = record { number = outcomeNumber (r .answer); len = r .written; output = output }
 
 -- calls from any state: the record of what a collector shows, the state after the calls, and every element of its
 -- arrays
 pub record Resumes (s : Arrays) (h : List Call) (entry exit : List ℕ) (r : Replayed) (s' : Arrays) : Type 0 where
   pub result : replayedOf r exit ≡ putRecord (recordOf (run (stateAt s) h)) entry
-  pub state : stateAt s' ≡ afterCalls (stateAt s) (madeBy (ranNumber (r .answer)) h)
-  pub elements : s' ≡ arraysAfterAll s (madeBy (ranNumber (r .answer)) h)
+  pub state : stateAt s' ≡ afterCalls (stateAt s) (madeBy (outcomeNumber (r .answer)) h)
+  pub elements : s' ≡ arraysAfterAll s (madeBy (outcomeNumber (r .answer)) h)
 
 -- THE CLAIM on the code: from a collector started fresh it writes what a collector shows, for any calls. For a history,
 -- that is what the reference model says. For the uncut list of a history it is the same, without the number of each

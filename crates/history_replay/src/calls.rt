@@ -22,9 +22,9 @@ ghost use Rattle.collector_model.specs.Image.{checkpointOf};
 ghost use Rattle.collector_model.specs.History.{Receive, Checkpoint, Restore, Cut, Burst, Ask, Look};
 ghost use Rattle.collector_burst.specs.Records.{listed};
 ghost use Rattle.c_collector.specs.State.{arrays, stateAt};
-ghost use Rattle.history_calls.specs.Answers.{totalsIn};
-ghost use Rattle.history_replay_model.specs.Record.{headLength, countLength, replyLength, seenBytes};
-ghost use Rattle.history_replay.specs.Calls.{callLength, numberAt, settingIn, receptionIn, outputIn, lentIn, receptionsIn, placesIn, entryIn};
+ghost use Rattle.history_calls.specs.Answers.{totalsInValues};
+ghost use Rattle.history_replay_model.specs.Record.{headLength, countLength, recordedReplyLength, seenBytes};
+ghost use Rattle.history_replay.specs.Calls.{callLength, numberAt, callSetting, callReception, outputIn, lentIn, burstReceptionsIn, placesIn, askedEntry};
 ghost use Rattle.history_replay.specs.Private.{Called, wroteOf, BurstMade};
 
 pub(crate) fn received(
@@ -36,16 +36,16 @@ pub(crate) fn received(
     r: &[u8],
     out: &mut [u8],
 )
-    requires { ⌜ (length (now r) ≡ callLength) × (length (now out) ≡ headLength + replyLength) ⌝ }
+    requires { ⌜ (length (now r) ≡ callLength) × (length (now out) ≡ headLength + recordedReplyLength) ⌝ }
     ensures { λ _. ⌜ Called
         (arrays (now (times .entry)) (now (lengths .entry)) (now (bytes .entry)) (now (copies .entry))
         (now (numbers .entry)))
-        (Receive (settingIn (now (r .entry))) (receptionIn (now (r .entry)))) (now (out .exit))
+        (Receive (callSetting (now (r .entry))) (callReception (now (r .entry)))) (now (out .exit))
         (arrays (now (times .exit)) (now (lengths .exit)) (now (bytes .exit)) (now (copies .exit))
         (now (numbers .exit))) ⌝ }
 {
     let time = reading::number_at(r, 1);
-    let n = reading::least(reading::wide(r[9]), reading::RECEPTION);
+    let n = reading::least(base_numbers::usize_of_byte(r[9]), reading::RECEPTION);
     let answer = c_collector::take(times, lengths, bytes, copies, numbers, &r[10..10 + n], time);
     let sent = sent_for(r[63], answer, &r[10..10 + n]);
     let totals = totals_of(times, lengths, bytes, copies, numbers);
@@ -87,7 +87,7 @@ fn totals_of<'a>(
 }
 
 fn totals_in(values: [u64; TOTALS]) -> Totals
-    ensures { λ n. ⌜ n ≡ totalsIn values ⌝ }
+    ensures { λ n. ⌜ n ≡ totalsInValues values ⌝ }
 {
     Totals {
         received: values[0],
@@ -246,11 +246,11 @@ pub(crate) fn delivered<'a>(
     out: &mut [u8],
 )
     requires { ⌜ (length (now r) ≡ callLength)
-        × (length (now out) ≡ headLength + countLength + replyLength * min (numberAt 17 (now r)) listed) ⌝ }
+        × (length (now out) ≡ headLength + countLength + recordedReplyLength * min (numberAt 17 (now r)) listed) ⌝ }
     ensures { λ _. ⌜ Called
         (arrays (now (times .entry)) (now (lengths .entry)) (now (bytes .entry)) (now (copies .entry))
         (now (numbers .entry)))
-        (Burst (settingIn (now (r .entry))) (receptionsIn (lentIn (now (lent .entry)) (now (r .entry))))
+        (Burst (callSetting (now (r .entry))) (burstReceptionsIn (lentIn (now (lent .entry)) (now (r .entry))))
         (placesIn (now (r .entry)))) (now (out .exit))
         (arrays (now (times .exit)) (now (lengths .exit)) (now (bytes .exit)) (now (copies .exit))
         (now (numbers .exit))) ⌝ }
@@ -297,7 +297,7 @@ fn burst_in(
     ensures { λ n. ⌜ BurstMade
         (arrays (now (times .entry)) (now (lengths .entry)) (now (bytes .entry)) (now (copies .entry))
         (now (numbers .entry)))
-        (settingIn (now (r .entry))) (receptionsIn (now (records .entry))) (now (places .entry)) n
+        (callSetting (now (r .entry))) (burstReceptionsIn (now (records .entry))) (now (places .entry)) n
         (arrays (now (times .exit)) (now (lengths .exit)) (now (bytes .exit)) (now (copies .exit))
         (now (numbers .exit)))
         (now (places .exit)) ⌝ }
@@ -331,7 +331,7 @@ pub(crate) fn asked(
     ensures { λ _. ⌜ Called
         (arrays (now (times .entry)) (now (lengths .entry)) (now (bytes .entry)) (now (copies .entry))
         (now (numbers .entry)))
-        (Ask (entryIn (now (r .entry)))) (now (out .exit))
+        (Ask (askedEntry (now (r .entry)))) (now (out .exit))
         (arrays (now (times .exit)) (now (lengths .exit)) (now (bytes .exit)) (now (copies .exit))
         (now (numbers .exit))) ⌝ }
 {

@@ -13,7 +13,7 @@ ghost use Rattle.base_lists.specs.Lists.{upFrom};
 ghost use Rattle.collector_burst.specs.Records.{listed};
 ghost use Rattle.c_burst.specs.Bytes.{replyLength};
 ghost use Rattle.c_layout.specs.Frame.{frameLength};
-ghost use Rattle.history_calls.specs.Answers.{shownWith, repliedIn, repliesIn};
+ghost use Rattle.history_calls.specs.Answers.{shownWith, repliedIn, repliesInPlaces};
 ghost use Rattle.history_replay_model.specs.Record as written;
 ghost use Rattle.history_replay_model.specs.Record.{formOf, replyOf};
 ghost use Rattle.history_replay.specs.Calls.{callLength, recordAt, numberAt};
@@ -106,8 +106,8 @@ fn put_old(out: &mut [u8], r: &[u8])
 
 // Writes the entries after the burst into the record.
 pub(crate) fn put_places(out: &mut [u8], places: &[u8], m: usize)
-    requires { ⌜ (length (now places) ≡ replyLength * m) × (length (now out) ≡ written.replyLength * m) ⌝ }
-    ensures { λ _. ⌜ now (out .exit) ≡ flatten (map replyOf (repliesIn (now (places .entry)))) ⌝ }
+    requires { ⌜ (length (now places) ≡ replyLength * m) × (length (now out) ≡ written.recordedReplyLength * m) ⌝ }
+    ensures { λ _. ⌜ now (out .exit) ≡ flatten (map replyOf (repliesInPlaces (now (places .entry)))) ⌝ }
 {
     for i in 0..m {
         put_place(
@@ -118,14 +118,14 @@ pub(crate) fn put_places(out: &mut [u8], places: &[u8], m: usize)
 }
 
 fn put_place(out: &mut [u8], place: &[u8])
-    requires { ⌜ (length (now out) ≡ written.replyLength) × (length (now place) ≡ replyLength) ⌝ }
+    requires { ⌜ (length (now out) ≡ written.recordedReplyLength) × (length (now place) ≡ replyLength) ⌝ }
     ensures { λ _. ⌜ now (out .exit) ≡ replyOf (repliedIn (now (place .entry))) ⌝ }
 {
     let form = form_with(place[0], place[1]);
     let mut bytes = [0u8; Collector::MAX_LEN];
     block_layout::put_bytes(&mut bytes, &place[3..PLACE]);
     let sent = Frame {
-        len: reading::wide(place[2]),
+        len: base_numbers::usize_of_byte(place[2]),
         bytes: bytes,
     };
     writing::put_reply(out, form, place[1], sent);

@@ -9,6 +9,7 @@ pub(crate) mod value_lists;
 pub mod values;
 pub(crate) mod writing;
 
+use base_refusal::Outcome;
 use base_refusal::Refusal;
 use c_collector::BYTES;
 use c_collector::CAPACITY;
@@ -45,16 +46,10 @@ pub const DELIVERING: u8 = 6;
 
 pub const ASKING: u8 = 7;
 
-// Whether the calls were made.
-pub enum Ran {
-    Done,
-    Refused(Refusal),
-}
-
 // How many bytes were written for the calls.
 pub struct Replayed {
     pub written: usize,
-    pub answer: Ran,
+    pub answer: Outcome,
 }
 
 // Writes what a collector started fresh shows for all the calls. If the output is shorter than their record, the answer is 6, and no call is made.
@@ -97,7 +92,7 @@ pub fn resume<'a>(
     if !fits(calls, out.len()) {
         return Replayed {
             written: 0,
-            answer: Ran::Refused(Refusal::ShortOutput),
+            answer: Outcome::Refused(Refusal::ShortOutput),
         };
     }
     all(times, lengths, bytes, copies, numbers, calls, lent, out)
@@ -154,7 +149,7 @@ fn all<'a>(
     }
     Replayed {
         written: at,
-        answer: Ran::Done,
+        answer: Outcome::Done,
     }
 }
 

@@ -91,9 +91,3 @@ pub(crate) fn least(a: usize, b: usize) -> usize
     }
     b
 }
-
-pub(crate) fn wide(x: u8) -> usize
-    ensures { λ r. ⌜ r ≡ x ⌝ }
-{
-    x as usize
-}

@@ -4,12 +4,9 @@ use crate::value_lists;
 use crate::writing;
 use crate::writing::BODY;
 use crate::writing::HEAD;
-use collector_burst::Handed;
+use base_refusal::Outcome;
 use collector_burst::Within;
-use collector_checkpoint::Loaded;
-use collector_checkpoint::Saved;
 use collector_model::Answer;
-use collector_state::Asked;
 use collector_state::Collector;
 use radio_telegram::frame::Frame;
 ghost use mathlib.Core.Path.{_≡_};
@@ -23,22 +20,21 @@ ghost use Rattle.collector_model.specs.Answer.{shownOf, isKept};
 ghost use Rattle.collector_model.specs.Image.{checkpointOf};
 ghost use Rattle.collector_model.specs.History.{Receive, Checkpoint, Restore, Cut, Burst, Ask, Look};
 ghost use Rattle.collector_state.specs.Collector.{viewOf};
-ghost use Rattle.collector_state.specs.Heard.{askedNumber};
-ghost use Rattle.collector_checkpoint.specs.Checkpoint.{savedNumber, loadedNumber, checkpointResult};
-ghost use Rattle.collector_burst.specs.Records.{handedNumber, listed};
+ghost use Rattle.collector_checkpoint.specs.Checkpoint.{checkpointResult};
+ghost use Rattle.collector_burst.specs.Records.{listed};
 ghost use Rattle.c_collector.specs.State.{arraysOf};
-ghost use Rattle.history_replay_model.specs.Record.{headLength, countLength, replyLength, seenBytes};
-ghost use Rattle.history_replay.specs.Calls.{callLength, numberAt, settingIn, receptionIn, outputIn, lentIn, receptionsIn, placeIn, placesIn, entryIn};
+ghost use Rattle.history_replay_model.specs.Record.{headLength, countLength, recordedReplyLength, seenBytes};
+ghost use Rattle.history_replay.specs.Calls.{callLength, numberAt, callSetting, callReception, outputIn, lentIn, burstReceptionsIn, placeIn, placesIn, askedEntry};
 ghost use Rattle.history_replay.specs.Private.{Called, wroteOf, BurstGiven};
 
 pub(crate) fn received<'a>(c: Collector, r: &'a [u8], out: &'a mut [u8]) -> Collector
-    requires { ⌜ (length (now r) ≡ callLength) × (length (now out) ≡ headLength + replyLength) ⌝ }
+    requires { ⌜ (length (now r) ≡ callLength) × (length (now out) ≡ headLength + recordedReplyLength) ⌝ }
     ensures { λ d. ⌜ Called (arraysOf c)
-        (Receive (settingIn (now (r .entry))) (receptionIn (now (r .entry))))
+        (Receive (callSetting (now (r .entry))) (callReception (now (r .entry))))
         (now (out .exit)) (arraysOf d) ⌝ }
 {
     let time = reading::number_at(r, 1);
-    let n = reading::least(reading::wide(r[9]), reading::RECEPTION);
+    let n = reading::least(base_numbers::usize_of_byte(r[9]), reading::RECEPTION);
     let setting = r[63];
     let taken = c.take(&r[10..10 + n], time);
     let next = taken.next;
@@ -82,7 +78,7 @@ fn put_wrote(out: &mut [u8], c: Collector, fill: u8)
 {
     let n = out.len() - BODY;
     let answer = save_into(&mut out[BODY..BODY + n], c, fill);
-    let number = saved_number(answer);
+    let number = base_refusal::outcome_number(answer);
     writing::put_body(
         &mut out[0..BODY],
         crate::SAVING,
@@ -92,7 +88,7 @@ fn put_wrote(out: &mut [u8], c: Collector, fill: u8)
     );
 }
 
-fn save_into(out: &mut [u8], c: Collector, fill: u8) -> Saved
+fn save_into(out: &mut [u8], c: Collector, fill: u8) -> Outcome
     ensures { λ r. ⌜ checkpointResult r (now (out .exit))
         ≡ checkpointOf (viewOf c) (replicate (length (now (out .entry))) fill) ⌝ }
 {
@@ -113,7 +109,7 @@ pub(crate) fn cut<'a>(c: Collector, r: &'a [u8], out: &'a mut [u8]) -> Collector
     let restored = collector_checkpoint::restore(Collector::fresh(), &out[BODY..last]);
     let next = restored.next;
     let answer = restored.answer;
-    let number = loaded_number(answer);
+    let number = base_refusal::outcome_number(answer);
     writing::put_head(
         &mut out[end..end + HEAD],
         crate::RESTORING,
@@ -135,7 +131,7 @@ pub(crate) fn restored<'a>(
     let restored = collector_checkpoint::restore(c, reading::lent_in(lent, r));
     let next = restored.next;
     let answer = restored.answer;
-    let number = loaded_number(answer);
+    let number = base_refusal::outcome_number(answer);
     writing::put_head(out, crate::RESTORING, number, next.summary.totals);
     next
 }
@@ -147,9 +143,9 @@ pub(crate) fn delivered<'a>(
     out: &'a mut [u8],
 ) -> Collector
     requires { ⌜ (length (now r) ≡ callLength)
-        × (length (now out) ≡ headLength + countLength + replyLength * min (numberAt 17 (now r)) listed) ⌝ }
+        × (length (now out) ≡ headLength + countLength + recordedReplyLength * min (numberAt 17 (now r)) listed) ⌝ }
     ensures { λ d. ⌜ Called (arraysOf c)
-        (Burst (settingIn (now (r .entry))) (receptionsIn (lentIn (now (lent .entry)) (now (r .entry))))
+        (Burst (callSetting (now (r .entry))) (burstReceptionsIn (lentIn (now (lent .entry)) (now (r .entry))))
         (placesIn (now (r .entry))))
         (now (out .exit)) (arraysOf d) ⌝ }
 {
@@ -159,7 +155,7 @@ pub(crate) fn delivered<'a>(
     let replies = made.replies;
     let next = bursted.next;
     let answer = bursted.answer;
-    let number = handed_number(answer);
+    let number = base_refusal::outcome_number(answer);
     writing::put_body(
         &mut out[0..BODY],
         crate::DELIVERING,
@@ -174,7 +170,7 @@ pub(crate) fn delivered<'a>(
 // Makes the burst of all whole records of these bytes, with m entries for replies.
 fn burst_in<'a>(c: Collector, r: &'a [u8], bytes: &'a [u8], m: usize) -> Within
     requires { ⌜ (length (now r) ≡ callLength) × (m ≤ listed) ⌝ }
-    ensures { λ w. ⌜ BurstGiven c (settingIn (now (r .entry))) (receptionsIn (now (bytes .entry)))
+    ensures { λ w. ⌜ BurstGiven c (callSetting (now (r .entry))) (burstReceptionsIn (now (bytes .entry)))
         (replicate m (placeIn (now (r .entry)))) m w ⌝ }
 {
     let n = reading::least(bytes.len() / crate::CALL_LENGTH, collector_burst::LISTED);
@@ -185,12 +181,12 @@ fn burst_in<'a>(c: Collector, r: &'a [u8], bytes: &'a [u8], m: usize) -> Within
 
 pub(crate) fn asked<'a>(c: Collector, r: &'a [u8], out: &'a mut [u8]) -> Collector
     requires { ⌜ (length (now r) ≡ callLength) × (length (now out) ≡ headLength + countLength) ⌝ }
-    ensures { λ d. ⌜ Called (arraysOf c) (Ask (entryIn (now (r .entry)))) (now (out .exit)) (arraysOf d) ⌝ }
+    ensures { λ d. ⌜ Called (arraysOf c) (Ask (askedEntry (now (r .entry)))) (now (out .exit)) (arraysOf d) ⌝ }
 {
     let entry = reading::number_at(r, 1);
     let heard = c.copies(entry as usize);
     let answer = heard.answer;
-    let number = asked_number(answer);
+    let number = base_refusal::outcome_number(answer);
     writing::put_body(
         out,
         crate::ASKING,
@@ -207,42 +203,4 @@ pub(crate) fn looked(c: Collector, out: &mut [u8]) -> Collector
 {
     writing::put_head(out, crate::LOOKING, 0, c.summary.totals);
     c
-}
-
-// ---- the numbers of answers
-
-fn saved_number(answer: Saved) -> u8
-    ensures { λ r. ⌜ r ≡ savedNumber answer ⌝ }
-{
-    match answer {
-        Saved::Done => 0,
-        Saved::Refused(why) => base_refusal::number(why),
-    }
-}
-
-fn loaded_number(answer: Loaded) -> u8
-    ensures { λ r. ⌜ r ≡ loadedNumber answer ⌝ }
-{
-    match answer {
-        Loaded::Done => 0,
-        Loaded::Refused(why) => base_refusal::number(why),
-    }
-}
-
-fn asked_number(answer: Asked) -> u8
-    ensures { λ r. ⌜ r ≡ askedNumber answer ⌝ }
-{
-    match answer {
-        Asked::Done => 0,
-        Asked::Refused(why) => base_refusal::number(why),
-    }
-}
-
-fn handed_number(answer: Handed) -> u8
-    ensures { λ r. ⌜ r ≡ handedNumber answer ⌝ }
-{
-    match answer {
-        Handed::Done => 0,
-        Handed::Refused(why) => base_refusal::number(why),
-    }
 }

@@ -16,7 +16,7 @@ ghost use Rattle.base_lists.specs.Lists.{upFrom};
 ghost use Rattle.collector_model.specs.Answer.{shownOf, shownNumber};
 ghost use Rattle.collector_burst.specs.Records.{receptionOf, repliedOf, listed};
 ghost use Rattle.history_calls.specs.Answers.{formIn};
-ghost use Rattle.history_replay_model.specs.Record.{replyLength, formOf, replyOf};
+ghost use Rattle.history_replay_model.specs.Record.{recordedReplyLength, formOf, replyOf};
 ghost use Rattle.history_replay.specs.Calls.{callLength, recordAt, burstReceptionIn, placeIn};
 
 // The receptions of a burst: the first n records.
@@ -64,7 +64,7 @@ pub(crate) fn place_in(r: &[u8]) -> Reply
 {
     let mut bytes = [0u8; Collector::MAX_LEN];
     block_layout::put_bytes(&mut bytes, &r[27..48]);
-    let len = reading::wide(r[26]);
+    let len = base_numbers::usize_of_byte(r[26]);
     let answer = form_in(r[25]);
     Reply {
         answer: answer,
@@ -95,7 +95,7 @@ pub(crate) fn places(place: Reply) -> [Reply; LISTED]
 
 // Writes the first m entries into the record.
 pub(crate) fn put_replies(out: &mut [u8], replies: [Reply; LISTED], m: usize)
-    requires { ⌜ (m ≤ listed) × (length (now out) ≡ replyLength * m) ⌝ }
+    requires { ⌜ (m ≤ listed) × (length (now out) ≡ recordedReplyLength * m) ⌝ }
     ensures { λ _. ⌜ now (out .exit) ≡ flatten (map replyOf (map repliedOf (take m replies))) ⌝ }
 {
     for i in 0..m {

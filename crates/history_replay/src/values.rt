@@ -1,9 +1,9 @@
 // The same with the calls by value, which take a collector and return the next. Its record equals that of the calls on lent arrays, and so does every
 // element of the state after it.
-use crate::Ran;
 use crate::Replayed;
 use crate::reading;
 use crate::value_calls;
+use base_refusal::Outcome;
 use base_refusal::Refusal;
 use collector_state::Collector;
 ghost use mathlib.Core.Path.{_≡_};
@@ -40,7 +40,7 @@ pub fn resume<'a>(c: Collector, calls: &'a [u8], lent: &'a [u8], out: &'a mut [u
             next: c,
             replayed: Replayed {
                 written: 0,
-                answer: Ran::Refused(Refusal::ShortOutput),
+                answer: Outcome::Refused(Refusal::ShortOutput),
             },
         };
     }
@@ -71,7 +71,7 @@ fn all<'a>(c: Collector, calls: &'a [u8], lent: &'a [u8], out: &'a mut [u8]) -> 
         next: now,
         replayed: Replayed {
             written: at,
-            answer: Ran::Done,
+            answer: Outcome::Done,
         },
     }
 }

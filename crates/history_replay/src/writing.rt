@@ -7,7 +7,7 @@ ghost use Prim.Native.Nat.{_+_};
 ghost use lib.ListN.{length, replicate};
 ghost use Rattle.block_layout.specs.BigEndian.{be};
 ghost use Rattle.history_replay_model.specs.Operation.{receiving};
-ghost use Rattle.history_replay_model.specs.Record.{headLength, countLength, replyLength, headOf};
+ghost use Rattle.history_replay_model.specs.Record.{headLength, countLength, recordedReplyLength, headOf};
 ghost use Rattle.history_replay.specs.Private.{replyCell};
 
 // The greatest lengths: the operation, the number and the totals; these with a length after them; a reply; a whole answer.
@@ -21,7 +21,7 @@ pub(crate) const ANSWERED: usize = HEAD + REPLY;
 
 // A reception: the head, and the reply.
 pub(crate) fn put_answered(out: &mut [u8], form: u8, number: u8, sent: Frame, totals: Totals)
-    requires { ⌜ length (now out) ≡ headLength + replyLength ⌝ }
+    requires { ⌜ length (now out) ≡ headLength + recordedReplyLength ⌝ }
     ensures { λ _. ⌜ now (out .exit) ≡ headOf receiving number totals ++ replyCell form number sent ⌝ }
 {
     put_head(&mut out[0..HEAD], crate::RECEIVING, number, totals);
@@ -62,7 +62,7 @@ pub(crate) fn put_head(out: &mut [u8], operation: u8, number: u8, t: Totals)
 
 // The form and the number of an answer, and the telegram to send.
 pub(crate) fn put_reply(out: &mut [u8], form: u8, number: u8, sent: Frame)
-    requires { ⌜ length (now out) ≡ replyLength ⌝ }
+    requires { ⌜ length (now out) ≡ recordedReplyLength ⌝ }
     ensures { λ _. ⌜ now (out .exit) ≡ replyCell form number sent ⌝ }
 {
     let bytes = sent.bytes;

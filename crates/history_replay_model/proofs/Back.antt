@@ -24,7 +24,7 @@ use Rattle.collector_model.specs.Burst.{Replied}
 use Rattle.collector_model.specs.History.{Seen, Answered, Wrote, Restored, Delivered, Heard, Looked}
 use Rattle.history_replay_model.specs.Operation.{looking, receiving, saving, restoring, delivering, asking}
 use Rattle.history_replay_model.specs.Record.{headOf, formOf, replyOf, seenBytes, recordOf}
-use Rattle.history_replay_model.specs.Claims.{WholeTotals, WholeFrame, WholeReplies, Whole, AllWhole, ReadsBack}
+use Rattle.history_replay_model.specs.Claims.{WholeTotals, WholeFrame, WholeReplies, WholeSeen, AllWhole, RecordReadsBack}
 use Rattle.history_replay_model.proofs.Lengths.{head-length, reply-length}
 use Rattle.history_replay_model.proofs.Sizes.{seen-length}
 
@@ -206,7 +206,7 @@ module _ (m : ℕ) (y : List ℕ) where
   count-past : drop 8 (be 8 m ++ y) ≡ y
   count-past = drop-at (be 8 m) y 8 (be-length 8 m)
 
-seen-back : (s : Seen) (x : List ℕ) → Whole s → seenIn (seenBytes s ++ x) ≡ record { seen = s; rest = x }
+seen-back : (s : Seen) (x : List ℕ) → WholeSeen s → seenIn (seenBytes s ++ x) ≡ record { seen = s; rest = x }
 unfolding seenBytes bodyIn
 seen-back (Answered a sent n) x w =
     let r : Replied = record { answer = a; sent = sent } in
@@ -264,12 +264,12 @@ not-none : (s : Seen) (l : List Seen) → (recordOf [] ≡ recordOf (s ∷ l)) �
 unfolding recordOf flatten
 not-none s l e = omega (arith, simp length-append at (ap length e), some s)
 
-same-first : (s t : Seen) (l m : List Seen) → Whole s → Whole t → recordOf (s ∷ l) ≡ recordOf (t ∷ m)
+same-first : (s t : Seen) (l m : List Seen) → WholeSeen s → WholeSeen t → recordOf (s ∷ l) ≡ recordOf (t ∷ m)
     → _≡_ {A = Cell} (record { seen = s; rest = recordOf l }) (record { seen = t; rest = recordOf m })
 unfolding recordOf flatten
 same-first s t l m w u e = sym (seen-back s (recordOf l) w) ∙ ap seenIn e ∙ seen-back t (recordOf m) u
 
-pub reads-back : ReadsBack
+pub reads-back : RecordReadsBack
 reads-back [] [] w u e = refl
 reads-back [] (t ∷ m) w u e = absurd (not-none t m e)
 reads-back (s ∷ l) [] w u e = absurd (not-none s l (sym e))

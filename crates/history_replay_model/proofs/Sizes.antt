@@ -15,7 +15,7 @@ use Rattle.collector_model.specs.History.{Call, Receive, Checkpoint, Restore, C
 use Rattle.collector_model.specs.History.{Seen, Answered, Wrote, Restored, Delivered, Heard, Looked}
 use Rattle.history_replay_model.specs.Record.{seenBytes, recordOf}
 use Rattle.history_replay_model.specs.Replay.{sizeOfAll}
-use Rattle.history_replay_model.specs.Claims.{Sized}
+use Rattle.history_replay_model.specs.Claims.{RecordSized}
 use Rattle.history_replay_model.proofs.Lengths.{head-length, reply-length, replies-length, checkpoint-length, burst-length}
 
 -- ---- one thing seen
@@ -47,7 +47,7 @@ more s l = simp (length-append, seen-length s)
 
 -- ---- all calls
 
-pub sized : Sized
+pub sized : RecordSized
 sized v [] = none
 sized v (Receive setting r ∷ h) = more _ _ ∙ ap (λ (n : ℕ). 81 + n) (sized (step v r .next) h)
 sized v (Checkpoint output ∷ h) = rw (more, checkpoint-length, sized v h)

@@ -25,7 +25,7 @@ use Rattle.collector_model.specs.History.{Call, Receive, Checkpoint, Restore, C
 use Rattle.collector_model.proofs.Invariant.{Good, good-fresh}
 use Rattle.collector_model.proofs.Image.{fits-layout, image-length}
 use Rattle.collector_model.proofs.Simulation.{good-after}
-use Rattle.history_replay_model.specs.Claims.{WholeTotals, WholeFrame, WholeReplies, AllWhole, Held, ReferenceWhole}
+use Rattle.history_replay_model.specs.Claims.{WholeTotals, WholeFrame, WholeReplies, AllWhole, OutputsHeld, ReferenceWhole}
 
 -- ---- totals, copies and outputs
 
@@ -121,7 +121,7 @@ module _ (setting : ℕ) (rs : List Reception) (places : List Replied) where
 -- ---- all calls
 
 whole : (past : List Reception) → Good (modelView (logOf past))
-    → (h : List Call) → IsHistory h → Held h → AllWhole (expected past h)
+    → (h : List Call) → IsHistory h → OutputsHeld h → AllWhole (expected past h)
 whole past g [] ok held = tt
 whole past g (Receive setting r ∷ h) ok held =
     let next = good-after (logOf past) r g (ok .0) in (

@@ -33,43 +33,43 @@ WholeReplies [] = Unit {0}
 WholeReplies (r ∷ l) = WholeFrame (r .sent) × WholeReplies l
 
 -- the limits for one thing seen
-abbrev pub Whole : Seen → Type 0
-Whole (Answered a sent n) = WholeFrame sent × WholeTotals n
-Whole (Wrote number output n) = (length output < 2 ^ 64) × WholeTotals n
-Whole (Restored number n) = WholeTotals n
-Whole (Delivered number replies n) = (length replies < 2 ^ 64) × WholeReplies replies × WholeTotals n
-Whole (Heard number copies n) = (copies < 2 ^ 64) × WholeTotals n
-Whole (Looked n) = WholeTotals n
+abbrev pub WholeSeen : Seen → Type 0
+WholeSeen (Answered a sent n) = WholeFrame sent × WholeTotals n
+WholeSeen (Wrote number output n) = (length output < 2 ^ 64) × WholeTotals n
+WholeSeen (Restored number n) = WholeTotals n
+WholeSeen (Delivered number replies n) = (length replies < 2 ^ 64) × WholeReplies replies × WholeTotals n
+WholeSeen (Heard number copies n) = (copies < 2 ^ 64) × WholeTotals n
+WholeSeen (Looked n) = WholeTotals n
 
 -- the limits for all things seen
 abbrev pub AllWhole : List Seen → Type 0
 AllWhole [] = Unit {0}
-AllWhole (s ∷ l) = Whole s × AllWhole l
+AllWhole (s ∷ l) = WholeSeen s × AllWhole l
 
 -- Reads back: if two lists of things seen differ, their records differ.
-abbrev pub ReadsBack : Type 0
-ReadsBack = (l m : List Seen) → AllWhole l → AllWhole m → recordOf l ≡ recordOf m → l ≡ m
+abbrev pub RecordReadsBack : Type 0
+RecordReadsBack = (l m : List Seen) → AllWhole l → AllWhole m → recordOf l ≡ recordOf m → l ≡ m
 
 -- ---- the same for each call: outputs and lists shorter than 2^64, and telegrams in 21 bytes in the replies of a burst
 
 -- the limits for a list of calls
-abbrev pub Held : List Call → Type 0
-Held [] = Unit {0}
-Held (Receive setting r ∷ h) = Held h
-Held (Checkpoint output ∷ h) = (length output < 2 ^ 64) × Held h
-Held (Restore image ∷ h) = Held h
-Held (Cut output ∷ h) = (length output < 2 ^ 64) × Held h
-Held (Burst setting rs places ∷ h) = (length places < 2 ^ 64) × WholeReplies places × Held h
-Held (Ask k ∷ h) = Held h
-Held (Look ∷ h) = Held h
+abbrev pub OutputsHeld : List Call → Type 0
+OutputsHeld [] = Unit {0}
+OutputsHeld (Receive setting r ∷ h) = OutputsHeld h
+OutputsHeld (Checkpoint output ∷ h) = (length output < 2 ^ 64) × OutputsHeld h
+OutputsHeld (Restore image ∷ h) = OutputsHeld h
+OutputsHeld (Cut output ∷ h) = (length output < 2 ^ 64) × OutputsHeld h
+OutputsHeld (Burst setting rs places ∷ h) = (length places < 2 ^ 64) × WholeReplies places × OutputsHeld h
+OutputsHeld (Ask k ∷ h) = OutputsHeld h
+OutputsHeld (Look ∷ h) = OutputsHeld h
 
 -- Reference whole: what the reference model says of a history fits into its record, so the record tells all of it.
 abbrev pub ReferenceWhole : Type 0
-ReferenceWhole = (h : List Call) → IsHistory h → Held h → AllWhole (expected [] h)
+ReferenceWhole = (h : List Call) → IsHistory h → OutputsHeld h → AllWhole (expected [] h)
 
 -- Sized: the calls decide how long the record is, from any state.
-abbrev pub Sized : Type 0
-Sized = (v : View) (h : List Call) → length (recordOf (run v h)) ≡ sizeOfAll h
+abbrev pub RecordSized : Type 0
+RecordSized = (v : View) (h : List Call) → length (recordOf (run v h)) ≡ sizeOfAll h
 
 -- In parts: if calls are made in two parts, the second record continues the first, from the state after it.
 abbrev pub InParts : Type 0

@@ -35,8 +35,8 @@ formOf Loose = 2
 formOf (Refused n) = 3
 
 -- the length of a reply
-abbrev pub replyLength : ℕ
-replyLength = 31
+abbrev pub recordedReplyLength : ℕ
+recordedReplyLength = 31
 
 -- the form and the number of an answer, and the telegram to send: its length, and its 21 bytes
 unfoldable pub replyOf : Replied → List ℕ

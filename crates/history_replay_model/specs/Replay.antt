@@ -12,7 +12,7 @@ use Rattle.collector_model.specs.Step.{step}
 use Rattle.collector_model.specs.Image.{imageLength, checkpointOf, restoreOf}
 use Rattle.collector_model.specs.Burst.{burstOf}
 use Rattle.collector_model.specs.History.{Call, Receive, Checkpoint, Restore, Cut, Burst, Ask, Look}
-use Rattle.history_replay_model.specs.Record.{headLength, countLength, replyLength}
+use Rattle.history_replay_model.specs.Record.{headLength, countLength, recordedReplyLength}
 
 -- the state after a call: "each call gets the state that the one before returned"
 abbrev pub afterCall : View → Call → View
@@ -31,11 +31,11 @@ afterCalls v (c ∷ h) = afterCalls (afterCall v c) h
 
 -- how many bytes are written for a call
 abbrev pub callSize : Call → ℕ
-callSize (Receive setting r) = headLength + replyLength
+callSize (Receive setting r) = headLength + recordedReplyLength
 callSize (Checkpoint output) = headLength + countLength + length output
 callSize (Restore image) = headLength
 callSize (Cut output) = headLength + countLength + length output + headLength
-callSize (Burst setting rs places) = headLength + countLength + replyLength * length places
+callSize (Burst setting rs places) = headLength + countLength + recordedReplyLength * length places
 callSize (Ask k) = headLength + countLength
 callSize Look = headLength
 

@@ -14,7 +14,7 @@ use Rattle.radio_erp1.specs.Subtelegram.{isValid}
 use Rattle.collector_model.specs.Answer.{Shown, isAccepted, isReceived}
 use Rattle.collector_model.specs.View.{Reception, View, openedBy, fresh}
 use Rattle.collector_model.specs.Acceptable.{acceptable}
-use Rattle.collector_model.specs.Step.{Outcome, maxCount, classify, step}
+use Rattle.collector_model.specs.Step.{StepOutcome, maxCount, classify, step}
 use Rattle.collector_model.specs.Burst.{afterAll}
 use Rattle.collector_model.specs.Image.{RestoreResult, imageOf, restoreOf}
 use Rattle.collector_model.specs.Reference.{Logged, answers, keptOf, openAt, latestOf, answerTo, logOf, modelView, pastAfter}
@@ -23,8 +23,8 @@ use Rattle.collector_model.proofs.Invariant.{Good, good-fresh}
 use Rattle.collector_model.proofs.Simulation.{behind-latest, same-step, good-after}
 use Rattle.collector_model.proofs.Theorem.{restore-image, burst-after, burst-good, fresh-model}
 use Rattle.collector_model.proofs.Isolation.{length-log}
-use Rattle.history_rows.specs.Rows.{isRow, logSince, rowsOf, alone}
-use Rattle.history_rows.specs.Again.{rowsFrom, isFit, RowsFit, FirstRows, GivenAgain, GoesOn}
+use Rattle.history_rows.specs.Rows.{isRowAnswer, logSince, rowsInLog, alone}
+use Rattle.history_rows.specs.Again.{loggedRowsFrom, isFitReception, RowsFit, FirstRows, GivenAgain, RowsGoOn}
 use Rattle.history_rows.proofs.Thinned.{Thinned, same-open, same-any, same-length, same-after, thinned-same, thinned-answer, thinned-row, thinned-other}
 use Rattle.history_rows.proofs.Rows.{rows-thinned}
 
@@ -34,38 +34,39 @@ pub first-rows : FirstRows
 first-rows v rs zero = (0, refl)
 first-rows v [] (suc j) = (0, refl)
 first-rows v (r ∷ rs) (suc j) =
-    go (isRow (step v r .answer)) refl (first-rows (step v r .next) rs j) (first-rows (step v r .next) rs (suc j))
+    go (isRowAnswer (step v r .answer)) refl (first-rows (step v r .next) rs j) (first-rows (step v r .next) rs (suc j))
   where
-    go : (b : Bool) → isRow (step v r .answer) ≡ b
-        → (k : ℕ) × (rowsFrom (step v r .next) (take k rs) ≡ take j (rowsFrom (step v r .next) rs))
-        → (k : ℕ) × (rowsFrom (step v r .next) (take k rs) ≡ take (suc j) (rowsFrom (step v r .next) rs))
-        → (k : ℕ) × (rowsFrom v (take k (r ∷ rs)) ≡ take (suc j) (rowsFrom v (r ∷ rs)))
+    go : (b : Bool) → isRowAnswer (step v r .answer) ≡ b
+        → (k : ℕ) × (loggedRowsFrom (step v r .next) (take k rs) ≡ take j (loggedRowsFrom (step v r .next) rs))
+        → (k : ℕ) × (loggedRowsFrom (step v r .next) (take k rs) ≡ take (suc j) (loggedRowsFrom (step v r .next) rs))
+        → (k : ℕ) × (loggedRowsFrom v (take k (r ∷ rs)) ≡ take (suc j) (loggedRowsFrom v (r ∷ rs)))
     go true e m n =
         (suc (m .0), rw e (ap (λ (l : List Logged). record { reception = r; answer = step v r .answer } ∷ l) (m .1)))
     go false e m n = (suc (n .0), rw e (n .1))
 
 -- what is a row is valid, whatever the view
-row-valid : (v : View) (r : Reception) → isRow (classify v r) ≡ true → isValid (r .bytes) ≡ true
+row-valid : (v : View) (r : Reception) → isRowAnswer (classify v r) ≡ true → isValid (r .bytes) ≡ true
 unfolding classify
 row-valid v r =
-    let P : Shown → Type 0 = λ a. isRow a ≡ true → isValid (r .bytes) ≡ true in
+    let P : Shown → Type 0 = λ a. isRowAnswer a ≡ true → isValid (r .bytes) ≡ true in
     branch P (not (acceptable v)) (λ _ e. absurd (false≢true e))
     λ _. branch P (leb maxCount (v .totals .received)) (λ _ e. absurd (false≢true e))
     λ _. branch P (not (isValid (r .bytes))) (λ _ e. absurd (false≢true e))
     λ w _. not-false (isValid (r .bytes)) w
 
-step-valid : (v : View) (r : Reception) → isRow (step v r .answer) ≡ true → isValid (r .bytes) ≡ true
+step-valid : (v : View) (r : Reception) → isRowAnswer (step v r .answer) ≡ true → isValid (r .bytes) ≡ true
 unfolding step
 step-valid v r e = row-valid v r e
 
 pub rows-fit : RowsFit
 rows-fit v [] t = refl
-rows-fit v (r ∷ rs) t = go (isRow (step v r .answer)) refl (rows-fit (step v r .next) rs (t .1))
+rows-fit v (r ∷ rs) t = go (isRowAnswer (step v r .answer)) refl (rows-fit (step v r .next) rs (t .1))
   where
-    go : (b : Bool) → isRow (step v r .answer) ≡ b → all isFit (rowsFrom (step v r .next) rs) ≡ true
-        → all isFit
-        (cond b (record { reception = r; answer = step v r .answer } ∷ rowsFrom (step v r .next) rs)
-        (rowsFrom (step v r .next) rs))
+    go : (b : Bool) → isRowAnswer (step v r .answer) ≡ b
+        → all isFitReception (loggedRowsFrom (step v r .next) rs) ≡ true
+        → all isFitReception
+        (cond b (record { reception = r; answer = step v r .answer } ∷ loggedRowsFrom (step v r .next) rs)
+        (loggedRowsFrom (step v r .next) rs))
         ≡ true
     go true e ih = and-true (and-true (step-valid v r e) (lt-ltb (r .time) (2 ^ 64) (t .0))) ih
     go false e ih = ih
@@ -75,17 +76,17 @@ rows-fit v (r ∷ rs) t = go (isRow (step v r .answer)) refl (rows-fit (step v r
 abbrev rowsBy : List Reception → List Reception → List Logged
 rowsBy past [] = []
 rowsBy past (r ∷ rs) =
-    cond (isRow (answerTo (logOf past) r))
+    cond (isRowAnswer (answerTo (logOf past) r))
     (record { reception = r; answer = answerTo (logOf past) r } ∷ rowsBy (r ∷ past) rs) (rowsBy (r ∷ past) rs)
 
 rows-by : (past rs : List Reception) → Good (modelView (logOf past))
-    → Timely rs → rowsFrom (modelView (logOf past)) rs ≡ rowsBy past rs
+    → Timely rs → loggedRowsFrom (modelView (logOf past)) rs ≡ rowsBy past rs
 rows-by past [] g t = refl
 rows-by past (r ∷ rs) g t =
-    ap (λ (o : Outcome). cond (isRow (o .answer))
-    (record { reception = r; answer = o .answer } ∷ rowsFrom (o .next) rs) (rowsFrom (o .next) rs))
+    ap (λ (o : StepOutcome). cond (isRowAnswer (o .answer))
+    (record { reception = r; answer = o .answer } ∷ loggedRowsFrom (o .next) rs) (loggedRowsFrom (o .next) rs))
     (same-step (logOf past) r g)
-    ∙ ap (λ (l : List Logged). cond (isRow (answerTo (logOf past) r))
+    ∙ ap (λ (l : List Logged). cond (isRowAnswer (answerTo (logOf past) r))
     (record { reception = r; answer = answerTo (logOf past) r } ∷ l) l)
     (rows-by (r ∷ past) rs (good-after (logOf past) r g (t .0)) (t .1))
 
@@ -96,7 +97,8 @@ rows-timely : (past rs : List Reception) (j : ℕ) → Timely rs → Timely (rec
 rows-timely past rs zero t = tt
 rows-timely past [] (suc j) t = tt
 rows-timely past (r ∷ rs) (suc j) t =
-    go (isRow (answerTo (logOf past) r)) (rows-timely (r ∷ past) rs j (t .1)) (rows-timely (r ∷ past) rs (suc j) (t .1))
+    go (isRowAnswer (answerTo (logOf past) r)) (rows-timely (r ∷ past) rs j (t .1))
+    (rows-timely (r ∷ past) rs (suc j) (t .1))
   where
     go : (b : Bool) → Timely (receptions (take j (rowsBy (r ∷ past) rs)))
         → Timely (receptions (take (suc j) (rowsBy (r ∷ past) rs)))
@@ -112,10 +114,10 @@ rows-again : (p q rs : List Reception) (j : ℕ) → Thinned (logOf p) (logOf q)
 rows-again p q rs zero h = refl
 rows-again p q [] (suc j) h = refl
 rows-again p q (r ∷ rs) (suc j) h =
-    go (isRow (answerTo (logOf p) r)) refl (λ q′ k. rows-again (r ∷ p) q′ rs j k)
+    go (isRowAnswer (answerTo (logOf p) r)) refl (λ q′ k. rows-again (r ∷ p) q′ rs j k)
     (λ k. rows-again (r ∷ p) q rs (suc j) k)
   where
-    go : (b : Bool) → isRow (answerTo (logOf p) r) ≡ b
+    go : (b : Bool) → isRowAnswer (answerTo (logOf p) r) ≡ b
         → ((q′ : List Reception) → Thinned (logOf (r ∷ p)) (logOf q′)
         → rowsBy q′ (receptions (take j (rowsBy (r ∷ p) rs))) ≡ take j (rowsBy (r ∷ p) rs))
         → (Thinned (logOf (r ∷ p)) (logOf q)
@@ -123,7 +125,7 @@ rows-again p q (r ∷ rs) (suc j) h =
         → rowsBy q (receptions (take (suc j) (rowsBy p (r ∷ rs)))) ≡ take (suc j) (rowsBy p (r ∷ rs))
     go true is m n =
         let a : answerTo (logOf p) r ≡ answerTo (logOf q) r = thinned-answer (logOf p) (logOf q) h r is in
-        let is-thin : isRow (answerTo (logOf q) r) ≡ true = ap isRow (sym a) ∙ is in
+        let is-thin : isRowAnswer (answerTo (logOf q) r) ≡ true = ap isRowAnswer (sym a) ∙ is in
         rw (is, is-thin) (ap₂ (λ (s : Shown) (l : List Logged). record { reception = r; answer = s } ∷ l) (sym a)
         (m (r ∷ q) (thinned-row (logOf p) (logOf q) h r is)))
     go false is m n = rw is (n (thinned-other (logOf p) (logOf q) h r (answerTo (logOf p) r) is))
@@ -139,12 +141,12 @@ given-again first more t u j =
     ap (λ (v : View). afterAll v first) fresh-model ∙ burst-after [] first fresh-good t in
     let back : restoreOf fresh (imageOf (afterAll fresh first)) ≡ record { number = 0; next = modelView (logOf p) }
     = ap (λ (v : View). restoreOf fresh (imageOf v)) middle ∙ restore-image good in
-    let rows : rowsFrom (afterAll fresh first) more ≡ rowsBy p more =
-    ap (λ (v : View). rowsFrom v more) middle ∙ rows-by p more good u in
+    let rows : loggedRowsFrom (afterAll fresh first) more ≡ rowsBy p more =
+    ap (λ (v : View). loggedRowsFrom v more) middle ∙ rows-by p more good u in
     record {
       number = ap (λ (q : RestoreResult). q .number) back;
       rows =
-          ap₂ (λ (q : RestoreResult) (l : List Logged). rowsFrom (q .next) (receptions (take j l))) back rows
+          ap₂ (λ (q : RestoreResult) (l : List Logged). loggedRowsFrom (q .next) (receptions (take j l))) back rows
           ∙ rows-by p (receptions (take j (rowsBy p more))) good (rows-timely p more j u)
           ∙ rows-again p p more j (thinned-same (logOf p)) ∙ ap (take j) (sym rows);
     }
@@ -218,18 +220,18 @@ going from p q (r ∷ next) h less few t =
 
 length-alone : (past more : List Reception) → length (alone (logSince past more)) ≤ length more
 length-alone past [] = omega arith
-length-alone past (r ∷ more) = go (isRow (answerTo (logOf (more ++ past)) r)) (length-alone past more)
+length-alone past (r ∷ more) = go (isRowAnswer (answerTo (logOf (more ++ past)) r)) (length-alone past more)
   where
     go : (b : Bool) → length (alone (logSince past more)) ≤ length more
         → length
         (receptions (cond b
-        (record { reception = r; answer = answerTo (logOf (more ++ past)) r } ∷ rowsOf (logSince past more))
-        (rowsOf (logSince past more))))
+        (record { reception = r; answer = answerTo (logOf (more ++ past)) r } ∷ rowsInLog (logSince past more))
+        (rowsInLog (logSince past more))))
         ≤ suc (length more)
     go true ih = omega (arith, ih)
     go false ih = omega (arith, ih)
 
-pub goes-on : GoesOn
+pub goes-on : RowsGoOn
 goes-on past more next few t =
     let p = more ++ past in
     let q = alone (logSince past more) ++ past in

@@ -18,7 +18,7 @@ use Rattle.radio_erp1.specs.Subtelegram.{isValid}
 use Rattle.collector_model.specs.Answer.{Shown, Kept, Copy, Loose, Refused, isKept, isAccepted, isReceived}
 use Rattle.collector_model.specs.View.{Reception, Entry, View, opened, openedBy, recount, maturity, capped, isOpen, fresh}
 use Rattle.collector_model.specs.Acceptable.{isCopyOf}
-use Rattle.collector_model.specs.Step.{Outcome, maxCount, step}
+use Rattle.collector_model.specs.Step.{StepOutcome, maxCount, step}
 use Rattle.collector_model.specs.Burst.{afterAll}
 use Rattle.collector_model.specs.Heard.{copiesIn}
 use Rattle.collector_model.specs.Reference.{Logged, answers, isOpenCopy, keptAfter, keptOf, openAt, isBehind, latestOf, answerTo, logOf, modelView, pastAfter}
@@ -194,7 +194,7 @@ closings-from : (past rs : List Reception) → Good (modelView (logOf past)) →
     → cap (closings past) ++ closingsFrom (modelView (logOf past)) rs ≡ cap (closings (pastAfter past rs))
 closings-from past [] g t = append-nil (cap (closings past))
 closings-from past (r ∷ rs) g t =
-    ap (λ (o : Outcome). cap (closings past)
+    ap (λ (o : StepOutcome). cap (closings past)
     ++ (closedFrom (modelView (logOf past)) r (o .answer) ++ closingsFrom (o .next) rs))
     (same-step (logOf past) r g)
     ∙ closings-more past r (closingsFrom (modelView (logOf (r ∷ past))) rs)
@@ -230,8 +230,8 @@ module _ {State : Type 0} (view : State → View) where
   closings-shown past ended e g ok = append-nil (cap (closings past))
   closings-shown past (received {c = c} {r = r} {a = a} f s t) e g ok =
       let is : a ≡ answerTo (logOf past) r =
-      ap (λ (o : Outcome). o .answer) f ∙ ap (λ (v : View). step v r .answer) e
-      ∙ ap (λ (o : Outcome). o .answer) (same-step (logOf past) r g) in
+      ap (λ (o : StepOutcome). o .answer) f ∙ ap (λ (v : View). step v r .answer) e
+      ∙ ap (λ (o : StepOutcome). o .answer) (same-step (logOf past) r g) in
       ap₂ (λ (v : View) (b : Shown). cap (closings past) ++ (closedFrom v r b ++ closingsOf view t)) e is
       ∙ closings-more past r (closingsOf view t)
       ∙ closings-shown (r ∷ past) t (left-model view past (received f s ended) e g (ok .0, tt))

@@ -23,8 +23,8 @@ use Rattle.collector_model.proofs.Theorem.{restore-image, burst-good, fresh-mod
 use Rattle.collector_model.proofs.Division.{repliesAt}
 use Rattle.collector_model.proofs.States.{left-model}
 use Rattle.collector_model.proofs.Struck.{bare, oneByOne, receptions-one-by-one, AllTimely, history-timely}
-use Rattle.history_rows.specs.Rows.{isRow}
-use Rattle.history_rows.specs.States.{rowsGiven, pastBy}
+use Rattle.history_rows.specs.Rows.{isRowAnswer}
+use Rattle.history_rows.specs.States.{rowsAmong, pastBy}
 use Rattle.history_rows.specs.Recovered.{RecoveredGoesOn}
 use Rattle.history_rows.proofs.Thinned.{thinned-same}
 use Rattle.history_rows.proofs.States.{both-runs, views-later, rows-timely, replies-from}
@@ -34,12 +34,13 @@ length-past : (past rs : List Reception) → length (pastAfter past rs) ≡ leng
 length-past past [] = omega arith
 length-past past (r ∷ rs) = omega (arith, length-past (r ∷ past) rs)
 
-length-rows : (past : List Reception) (gs : List Given) → length (rowsGiven past gs) ≤ length gs
+length-rows : (past : List Reception) (gs : List Given) → length (rowsAmong past gs) ≤ length gs
 length-rows past [] = omega arith
-length-rows past (g ∷ gs) = go (isRow (answerTo (logOf past) (g .reception))) (length-rows (g .reception ∷ past) gs)
+length-rows past (g ∷ gs) = go (isRowAnswer (answerTo (logOf past) (g .reception)))
+    (length-rows (g .reception ∷ past) gs)
   where
-    go : (b : Bool) → length (rowsGiven (g .reception ∷ past) gs) ≤ length gs
-        → length (cond b (g ∷ rowsGiven (g .reception ∷ past) gs) (rowsGiven (g .reception ∷ past) gs))
+    go : (b : Bool) → length (rowsAmong (g .reception ∷ past) gs) ≤ length gs
+        → length (cond b (g ∷ rowsAmong (g .reception ∷ past) gs) (rowsAmong (g .reception ∷ past) gs))
         ≤ suc (length gs)
     go true ih = omega (arith, ih)
     go false ih = omega (arith, ih)
@@ -76,7 +77,7 @@ module _ {State : Type 0} (view : State → View) where
   pub recovered-goes-on : RecoveredGoesOn view
   recovered-goes-on h g f ok-h ok-g ok-f few late c d d′ from-c from-d k l m x y s t w n e u z =
       let past = pastOf h in
-      let rows = rowsGiven past (receptionsOf g) in
+      let rows = rowsAmong past (receptionsOf g) in
       let p = pastBy past g in
       let q = pastAfter past (bare rows) in
       let good : Good (modelView (logOf past)) =

@@ -5,19 +5,19 @@ use mathlib.Core.List.{List, [], _∷_, _++_, map, append-nil}
 use Rattle.collector_model.specs.Answer.{Shown}
 use Rattle.collector_model.specs.View.{Reception, openedBy}
 use Rattle.collector_model.specs.Reference.{Logged, openAt, answerTo, logOf}
-use Rattle.history_rows.specs.Rows.{isRow, logSince, rowsOf, alone, RowsAlone, RowsAloneSince}
+use Rattle.history_rows.specs.Rows.{isRowAnswer, logSince, rowsInLog, alone, RowsAlone, RowsAloneSince}
 use Rattle.history_rows.proofs.Thinned.{Thinned, thinned-same, thinned-open, thinned-answer, thinned-row, thinned-other}
 
 -- both at once: the runs keep step
 record Kept (past more : List Reception) : Type 0 where
-  answers : rowsOf (logSince past more) ≡ logSince past (alone (logSince past more))
+  answers : rowsInLog (logSince past more) ≡ logSince past (alone (logSince past more))
   thinned : Thinned (logOf (more ++ past)) (logOf (alone (logSince past more) ++ past))
 
 kept : (past more : List Reception) → Kept past more
 kept past [] = record { answers = refl; thinned = thinned-same (logOf past) }
-kept past (r ∷ more) = go (isRow (answerTo (logOf (more ++ past)) r)) refl (kept past more)
+kept past (r ∷ more) = go (isRowAnswer (answerTo (logOf (more ++ past)) r)) refl (kept past more)
   where
-    go : (b : Bool) → isRow (answerTo (logOf (more ++ past)) r) ≡ b → Kept past more → Kept past (r ∷ more)
+    go : (b : Bool) → isRowAnswer (answerTo (logOf (more ++ past)) r) ≡ b → Kept past more → Kept past (r ∷ more)
     go true is k =
         let a : answerTo (logOf (more ++ past)) r ≡ answerTo (logOf (alone (logSince past more) ++ past)) r
         = thinned-answer (logOf (more ++ past)) (logOf (alone (logSince past more) ++ past)) (k .thinned) r is in
@@ -61,7 +61,7 @@ rows-alone past =
     let e = log-since-none past in
     record {
       answers =
-          ap rowsOf (sym e) ∙ k .answers ∙ log-since-none (alone (logSince [] past))
+          ap rowsInLog (sym e) ∙ k .answers ∙ log-since-none (alone (logSince [] past))
           ∙ ap (λ (l : List Logged). logOf (alone l)) e;
       openings = λ t.
           ap (λ (p : List Reception). map openedBy (openAt t (logOf p))) (sym (append-nil past)) ∙ k .openings t

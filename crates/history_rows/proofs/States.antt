@@ -19,8 +19,8 @@ use Rattle.collector_model.proofs.Theorem.{restore-image, burst-good, same-run,
 use Rattle.collector_model.proofs.Division.{repliesAt, expected-replies}
 use Rattle.collector_model.proofs.States.{shows-run, left-model}
 use Rattle.collector_model.proofs.Struck.{bare, oneByOne, receptions-one-by-one, AllTimely, history-timely}
-use Rattle.history_rows.specs.Rows.{isRow}
-use Rattle.history_rows.specs.States.{rowsGiven, struck, rowReplies, pastBy, lastTime, endsInRow, RowsShown, StatesRowsAlone, RestoredRowsAlone}
+use Rattle.history_rows.specs.Rows.{isRowAnswer}
+use Rattle.history_rows.specs.States.{rowsAmong, rowCalls, rowReplies, pastBy, lastTime, endsInRow, RowsShown, StatesRowsAlone, RestoredRowsAlone}
 use Rattle.history_rows.proofs.Thinned.{Thinned, row-latest, capped-openings, opensAt, open-openings, same-open}
 use Rattle.history_rows.proofs.Thinned.{thinned-same, thinned-answer, thinned-row, thinned-other}
 
@@ -32,25 +32,25 @@ pub record Level (whole thin : List Logged) : Type 0 where
   pub newest : endsInRow whole ≡ true → latestOf whole ≡ latestOf thin
 
 pub record Both (p q : List Reception) (gs : List Given) : Type 0 where
-  pub replies : rowReplies (repliesAt p gs) ≡ repliesAt q (rowsGiven p gs)
-  pub level : Level (logOf (pastAfter p (bare gs))) (logOf (pastAfter q (bare (rowsGiven p gs))))
-  pub latest : latestOf (logOf (pastAfter q (bare (rowsGiven p gs)))) ≡ lastTime (latestOf (logOf q)) (rowsGiven p gs)
+  pub replies : rowReplies (repliesAt p gs) ≡ repliesAt q (rowsAmong p gs)
+  pub level : Level (logOf (pastAfter p (bare gs))) (logOf (pastAfter q (bare (rowsAmong p gs))))
+  pub latest : latestOf (logOf (pastAfter q (bare (rowsAmong p gs)))) ≡ lastTime (latestOf (logOf q)) (rowsAmong p gs)
 
 pub both-runs : (p q : List Reception) (gs : List Given) → Level (logOf p) (logOf q) → Both p q gs
 both-runs p q [] h = record { replies = refl; level = h; latest = refl }
 both-runs p q (g ∷ gs) h =
-    go (isRow (answerTo (logOf p) (g .reception))) refl (λ q′ k. both-runs (g .reception ∷ p) q′ gs k)
+    go (isRowAnswer (answerTo (logOf p) (g .reception))) refl (λ q′ k. both-runs (g .reception ∷ p) q′ gs k)
   where
     reply : Shown → Replied
     reply a = record { answer = a; sent = sentWith (g .setting) a (g .reception) }
 
-    go : (b : Bool) → isRow (answerTo (logOf p) (g .reception)) ≡ b
+    go : (b : Bool) → isRowAnswer (answerTo (logOf p) (g .reception)) ≡ b
         → ((q′ : List Reception) → Level (logOf (g .reception ∷ p)) (logOf q′) → Both (g .reception ∷ p) q′ gs)
         → Both p q (g ∷ gs)
     go true is on =
         let r = g .reception in
         let a : answerTo (logOf p) r ≡ answerTo (logOf q) r = thinned-answer (logOf p) (logOf q) (h .thinned) r is in
-        let is-thin : isRow (answerTo (logOf q) r) ≡ true = ap isRow (sym a) ∙ is in
+        let is-thin : isRowAnswer (answerTo (logOf q) r) ≡ true = ap isRowAnswer (sym a) ∙ is in
         let now : latestOf (logOf (r ∷ q)) ≡ r .time = row-latest (logOf q) r is-thin in
         let next = on (r ∷ q) (record {
           thinned = thinned-row (logOf p) (logOf q) (h .thinned) r is;
@@ -59,7 +59,7 @@ both-runs p q (g ∷ gs) h =
         record {
           replies = rw is (ap₂ (λ (s : Shown) (l : List Replied). reply s ∷ l) a (next .replies));
           level = rw is (next .level);
-          latest = rw is (next .latest ∙ ap (λ (t : ℕ). lastTime t (rowsGiven (r ∷ p) gs)) now);
+          latest = rw is (next .latest ∙ ap (λ (t : ℕ). lastTime t (rowsAmong (r ∷ p) gs)) now);
         }
     go false is on =
         let r = g .reception in
@@ -114,13 +114,13 @@ module _ (whole thin : List Logged) (h : Level whole thin) where
 
 -- ---- states
 
-pub rows-timely : (past : List Reception) (gs : List Given) → AllTimely gs → IsHistory (oneByOne (rowsGiven past gs))
+pub rows-timely : (past : List Reception) (gs : List Given) → AllTimely gs → IsHistory (oneByOne (rowsAmong past gs))
 rows-timely past [] t = tt
 rows-timely past (g ∷ gs) t =
-    go (isRow (answerTo (logOf past) (g .reception))) (rows-timely (g .reception ∷ past) gs (t .1))
+    go (isRowAnswer (answerTo (logOf past) (g .reception))) (rows-timely (g .reception ∷ past) gs (t .1))
   where
-    go : (b : Bool) → IsHistory (oneByOne (rowsGiven (g .reception ∷ past) gs))
-        → IsHistory (oneByOne (cond b (g ∷ rowsGiven (g .reception ∷ past) gs) (rowsGiven (g .reception ∷ past) gs)))
+    go : (b : Bool) → IsHistory (oneByOne (rowsAmong (g .reception ∷ past) gs))
+        → IsHistory (oneByOne (cond b (g ∷ rowsAmong (g .reception ∷ past) gs) (rowsAmong (g .reception ∷ past) gs)))
     go true ok = (t .0, ok)
     go false ok = ok
 
@@ -134,11 +134,11 @@ module _ {State : Type 0} (view : State → View) where
   -- from two states at which the reference model is after the past
   rows-from : (past : List Reception) → Good (modelView (logOf past)) → (h : List Call) → IsHistory h
       → (c d : State) → view c ≡ modelView (logOf past) → view d ≡ modelView (logOf past)
-      → (l m : List Seen) (t : Shows view c h l) (u : Shows view d (struck past h) m)
+      → (l m : List Seen) (t : Shows view c h l) (u : Shows view d (rowCalls past h) m)
       → RowsShown view past h l m (leftBy view t) (leftBy view u)
   rows-from past g h ok c d from-c from-d l m t u =
-      let rows = rowsGiven past (receptionsOf h) in
-      let rows-ok : IsHistory (struck past h) = rows-timely past (receptionsOf h) (history-timely h ok) in
+      let rows = rowsAmong past (receptionsOf h) in
+      let rows-ok : IsHistory (rowCalls past h) = rows-timely past (receptionsOf h) (history-timely h ok) in
       let b =
       both-runs past past (receptionsOf h) (record { thinned = thinned-same (logOf past); newest = λ _. refl }) in
       let whole = logOf (pastBy past h) in

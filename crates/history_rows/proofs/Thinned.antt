@@ -21,7 +21,7 @@ use Rattle.collector_model.specs.Acceptable.{isCopyOf}
 use Rattle.collector_model.specs.Step.{maxCount, credit}
 use Rattle.collector_model.specs.Reference.{Logged, answers, isOpenCopy, keptAfter, keptOf, openAt, isBehind, latestOf, answerTo}
 use Rattle.collector_model.proofs.Simulation.{behind-latest}
-use Rattle.history_rows.specs.Rows.{isRow}
+use Rattle.history_rows.specs.Rows.{isRowAnswer}
 
 -- ---- openings
 
@@ -87,10 +87,10 @@ record RowFacts (log : List Logged) (r : Reception) : Type 0 where
   inTime : latestOf log ≤ r .time
   fresh : any (λ e. isCopyOf e r) (openAt (r .time) log) ≡ false
 
-row-facts : (log : List Logged) (r : Reception) → isRow (answerTo log r) ≡ true → RowFacts log r
+row-facts : (log : List Logged) (r : Reception) → isRowAnswer (answerTo log r) ≡ true → RowFacts log r
 unfolding answerTo
 row-facts log r =
-    let P : Shown → Type 0 = λ a. isRow a ≡ true → RowFacts log r in
+    let P : Shown → Type 0 = λ a. isRowAnswer a ≡ true → RowFacts log r in
     branch P (leb maxCount (answers isReceived log)) (λ _ e. absurd (false≢true e))
     λ m. branch P (not (isValid (r .bytes))) (λ _ e. absurd (false≢true e))
     λ w. branch P (isBehind (r .time) log) (λ _ e. absurd (false≢true e))
@@ -114,14 +114,14 @@ row-answer log r f =
       f .fresh,
     )
 
-row-accepted : (a : Shown) → isRow a ≡ true → isAccepted a ≡ true
+row-accepted : (a : Shown) → isRowAnswer a ≡ true → isAccepted a ≡ true
 row-accepted Kept e = refl
 row-accepted Copy e = absurd (false≢true e)
 row-accepted Loose e = refl
 row-accepted (Refused n) e = absurd (false≢true e)
 
 -- it is the latest
-pub row-latest : (log : List Logged) (r : Reception) → isRow (answerTo log r) ≡ true
+pub row-latest : (log : List Logged) (r : Reception) → isRowAnswer (answerTo log r) ≡ true
     → latestOf (record { reception = r; answer = answerTo log r } ∷ log) ≡ r .time
 row-latest log r e = rw (row-accepted (answerTo log r) e) (max-eq-left (row-facts log r e .inTime))
 
@@ -150,7 +150,7 @@ module _ (whole thin : List Logged) (h : Thinned whole thin) where
     }
 
     -- a row of the first run is answered the same in the second
-    pub thinned-answer : isRow (answerTo whole r) ≡ true → answerTo whole r ≡ answerTo thin r
+    pub thinned-answer : isRowAnswer (answerTo whole r) ≡ true → answerTo whole r ≡ answerTo thin r
     thinned-answer e =
         let f = row-facts whole r e in
         row-answer whole r f
@@ -188,13 +188,13 @@ module _ (whole thin : List Logged) (h : Thinned whole thin) where
       received = received-more a;
     }
 
-    pub thinned-row : isRow (answerTo whole r) ≡ true
+    pub thinned-row : isRowAnswer (answerTo whole r) ≡ true
         → Thinned (record { reception = r; answer = answerTo whole r } ∷ whole)
         (record { reception = r; answer = answerTo thin r } ∷ thin)
     thinned-row e = rw (← thinned-answer e) (thinned-both (answerTo whole r))
 
     -- what is no row opens nothing
-    no-opening : (a : Shown) → isRow a ≡ false
+    no-opening : (a : Shown) → isRowAnswer a ≡ false
         → map openedBy (keptAfter (keptOf whole) r a) ≡ map openedBy (keptOf thin)
     no-opening Kept e = absurd (false≢true (sym e))
     no-opening Copy e = opened-credit (λ n. n + 1) (isOpenCopy r) (keptOf whole) ∙ h .openings
@@ -216,5 +216,6 @@ module _ (whole thin : List Logged) (h : Thinned whole thin) where
         go true = omega (arith, h .received)
         go false = h .received
 
-    pub thinned-other : (a : Shown) → isRow a ≡ false → Thinned (record { reception = r; answer = a } ∷ whole) thin
+    pub thinned-other : (a : Shown) → isRowAnswer a ≡ false
+        → Thinned (record { reception = r; answer = a } ∷ whole) thin
     thinned-other a e = record { openings = no-opening a e; latest = latest-only a; received = received-only a }

@@ -25,14 +25,14 @@ abbrev pub heard : List ℕ → ℕ → Reception
 heard bytes time = record { bytes = bytes; time = time }
 
 -- newest first
-abbrev pub sample : List Reception
-sample =
+abbrev pub sampleReceptions : List Reception
+sampleReceptions =
     heard original 1160 ∷ heard another 1149 ∷ heard (246 ∷ []) 1151 ∷ heard another 1150 ∷ heard repeated 1100 ∷ heard original 1000 ∷ []
 
 -- Worked (THE CLAIM): the answers, the rows, what closed and what is open
 pub record Worked : Type 0 where
-  pub answers : map (λ e. e .answer) (logOf sample) ≡ (Kept ∷ Refused 7 ∷ Refused 1 ∷ Kept ∷ Copy ∷ Kept ∷ [])
-  pub rows : alone (logOf sample) ≡ (heard original 1160 ∷ heard another 1150 ∷ heard original 1000 ∷ [])
-  pub closed : closings sample ≡ (record { bytes = original; time = 1000; copies = 1 } ∷ [])
-  pub left : openAt (latestOf (logOf sample)) (logOf sample)
+  pub answers : map (λ e. e .answer) (logOf sampleReceptions) ≡ (Kept ∷ Refused 7 ∷ Refused 1 ∷ Kept ∷ Copy ∷ Kept ∷ [])
+  pub rows : alone (logOf sampleReceptions) ≡ (heard original 1160 ∷ heard another 1150 ∷ heard original 1000 ∷ [])
+  pub closed : closings sampleReceptions ≡ (record { bytes = original; time = 1000; copies = 1 } ∷ [])
+  pub left : openAt (latestOf (logOf sampleReceptions)) (logOf sampleReceptions)
       ≡ (record { bytes = another; time = 1150; copies = 0 } ∷ record { bytes = original; time = 1160; copies = 0 } ∷ [])

@@ -13,7 +13,7 @@ use Rattle.collector_model.specs.Reference.{latestOf, logOf}
 use Rattle.collector_model.specs.History.{Call, IsHistory, Seen}
 use Rattle.collector_model.specs.Division.{receptionsOf, pastOf, repliesIn}
 use Rattle.collector_model.specs.States.{Shows, leftBy}
-use Rattle.history_rows.specs.States.{struck, pastBy}
+use Rattle.history_rows.specs.States.{rowCalls, pastBy}
 
 module _ {State : Type 0} (view : State → View) where
   -- the calls f show the same replies, COPY, damaged and late ones too, and leave the same openings
@@ -32,5 +32,5 @@ module _ {State : Type 0} (view : State → View) where
       → (c d d′ : State) → view c ≡ fresh → view d ≡ fresh
       → (k l m x y : List Seen) (s : Shows view c h k) (t : Shows view (leftBy view s) g l) (w : Shows view (leftBy view t) f x)
       → (n : ℕ) → record { number = n; next = view d′ } ≡ restoreOf (view d) (imageOf (view (leftBy view s)))
-      → (u : Shows view d′ (struck (pastOf h) g) m) (z : Shows view (leftBy view u) f y)
+      → (u : Shows view d′ (rowCalls (pastOf h) g) m) (z : Shows view (leftBy view u) f y)
       → Alike f x y (leftBy view w) (leftBy view z)

@@ -12,22 +12,23 @@ use Rattle.collector_model.specs.Reference.{Logged, openAt, latestOf, answerTo,
 use Rattle.collector_model.specs.History.{Call, Receive, IsHistory, Seen}
 use Rattle.collector_model.specs.Division.{Given, receptionsOf, pastOf, repliesIn}
 use Rattle.collector_model.specs.States.{Shows, leftBy}
-use Rattle.history_rows.specs.Rows.{isRow}
+use Rattle.history_rows.specs.Rows.{isRowAnswer}
 
 -- of the receptions after those of the past, in order, each with its setting: those that the reference model answers
 -- KEPT or LOOSE
-abbrev pub rowsGiven : List Reception → List Given → List Given
-rowsGiven past [] = []
-rowsGiven past (g ∷ gs) =
-    cond (isRow (answerTo (logOf past) (g .reception))) (g ∷ rowsGiven (g .reception ∷ past) gs) (rowsGiven (g .reception ∷ past) gs)
+abbrev pub rowsAmong : List Reception → List Given → List Given
+rowsAmong past [] = []
+rowsAmong past (g ∷ gs) =
+    cond (isRowAnswer (answerTo (logOf past) (g .reception))) (g ∷ rowsAmong (g .reception ∷ past) gs)
+    (rowsAmong (g .reception ∷ past) gs)
 
 -- only the rows of calls, each with its own time and setting, one by one
-abbrev pub struck : List Reception → List Call → List Call
-struck past h = map (λ g. Receive (g .setting) (g .reception)) (rowsGiven past (receptionsOf h))
+abbrev pub rowCalls : List Reception → List Call → List Call
+rowCalls past h = map (λ g. Receive (g .setting) (g .reception)) (rowsAmong past (receptionsOf h))
 
 -- the replies to rows, of all replies
 abbrev pub rowReplies : List Replied → List Replied
-rowReplies replies = keep (λ p. isRow (p .answer)) replies
+rowReplies replies = keep (λ p. isRowAnswer (p .answer)) replies
 
 -- the receptions of the past, and of calls after it
 abbrev pub pastBy : List Reception → List Call → List Reception
@@ -41,18 +42,19 @@ lastTime t (g ∷ gs) = lastTime (g .reception .time) gs
 -- the newest reception is a row
 abbrev pub endsInRow : List Logged → Bool
 endsInRow [] = false
-endsInRow (e ∷ log) = isRow (e .answer)
+endsInRow (e ∷ log) = isRowAnswer (e .answer)
 
 module _ {State : Type 0} (view : State → View) where
   -- what calls after the past show agrees with what their rows alone show, and so do the states after both
   pub record RowsShown (past : List Reception) (h : List Call) (l m : List Seen) (left alone : State) : Type 0 where
     -- the same answers, with the same telegrams to send
-    pub replies : rowReplies (repliesIn h l) ≡ repliesIn (struck past h) m
+    pub replies : rowReplies (repliesIn h l) ≡ repliesIn (rowCalls past h) m
     -- the latest time is that of the last row
-    pub latest : view alone .latest ≡ lastTime (latestOf (logOf past)) (rowsGiven past (receptionsOf h))
+    pub latest : view alone .latest ≡ lastTime (latestOf (logOf past)) (rowsAmong past (receptionsOf h))
     -- the telegrams that the whole history has open at that time, without their copies
     pub openings : map openedBy (view alone .entries)
-        ≡ map openedBy (openAt (lastTime (latestOf (logOf past)) (rowsGiven past (receptionsOf h))) (logOf (pastBy past h)))
+        ≡ map openedBy
+        (openAt (lastTime (latestOf (logOf past)) (rowsAmong past (receptionsOf h))) (logOf (pastBy past h)))
     -- those of them that are still open when the whole history has ended are the entries of its state
     pub later : map openedBy (stillOpen (view left .latest) (view alone)) ≡ map openedBy (view left .entries)
     -- if the history ends with a row, all of them are, and the latest times are equal
@@ -63,7 +65,7 @@ module _ {State : Type 0} (view : State → View) where
   abbrev pub StatesRowsAlone : Type 0
   StatesRowsAlone =
       (h : List Call) → IsHistory h → (c d : State) → view c ≡ fresh → view d ≡ fresh
-      → (l m : List Seen) (t : Shows view c h l) (u : Shows view d (struck [] h) m)
+      → (l m : List Seen) (t : Shows view c h l) (u : Shows view d (rowCalls [] h) m)
       → RowsShown [] h l m (leftBy view t) (leftBy view u)
 
   -- THE CLAIM, from the middle: c takes a history h, and then g. A fresh d restores the image after h and becomes d′.
@@ -74,5 +76,5 @@ module _ {State : Type 0} (view : State → View) where
       → (c d d′ : State) → view c ≡ fresh → view d ≡ fresh
       → (k l m : List Seen) (s : Shows view c h k) (t : Shows view (leftBy view s) g l)
       → (n : ℕ) → record { number = n; next = view d′ } ≡ restoreOf (view d) (imageOf (view (leftBy view s)))
-      → (u : Shows view d′ (struck (pastOf h) g) m)
+      → (u : Shows view d′ (rowCalls (pastOf h) g) m)
       → (n ≡ 0) × RowsShown (pastOf h) g l m (leftBy view t) (leftBy view u)

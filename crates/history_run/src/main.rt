@@ -4,10 +4,10 @@ pub(crate) mod lent;
 pub(crate) mod records;
 pub(crate) mod shown;
 
+use base_refusal::Outcome;
 use c_collector::BYTES;
 use c_collector::CAPACITY;
 use c_collector::NUMBERS;
-use history_replay::Ran;
 use history_replay::Replayed;
 ghost use mathlib.Core.Path.{_≡_};
 ghost use Prim.Native.Nat.{_≤_};
@@ -394,8 +394,8 @@ fn made<'a>(
 fn is_refused(ran: Replayed) -> bool {
     let answer = ran.answer;
     match answer {
-        Ran::Done => false,
-        Ran::Refused(_) => true,
+        Outcome::Done => false,
+        Outcome::Refused(_) => true,
     }
 }
 

@@ -93,7 +93,7 @@ pub(crate) fn put_heard(cell: &[u8])
 fn put_number(cell: &[u8])
     requires { ⌜ 50 ≤ length (now cell) ⌝ }
 {
-    test_io::decimal(wide(cell[1]));
+    test_io::decimal(base_numbers::u64_of_byte(cell[1]));
 }
 
 fn put_totals(cell: &[u8])
@@ -127,7 +127,7 @@ fn put_answer(form: u8, number: u8) {
         0 => test_io::text(b"KEPT"),
         1 => test_io::text(b"COPY"),
         2 => test_io::text(b"LOOSE"),
-        _ => test_io::decimal(wide(number)),
+        _ => test_io::decimal(base_numbers::u64_of_byte(number)),
     }
 }
 
@@ -167,8 +167,4 @@ fn put_image(shown: u8, number: u8, out: &[u8]) -> u8 {
     test_io::hex(&out[0..crate::IMAGE]);
     test_io::text(b"\n");
     shown + 1
-}
-
-fn wide(x: u8) -> u64 {
-    x as u64
 }

@@ -17,17 +17,17 @@ use Rattle.archive_fill.specs.Claims.{withBlock}
 use Rattle.journal_model.specs.Disk.{wholeBlocks}
 use Rattle.journal_calls.specs.Rows.{Compared, compareCall}
 use Rattle.journal_state.specs.State.{Kept, stateBytes}
-use Rattle.journal_state.specs.Lawful.{lawful}
+use Rattle.journal_state.specs.Lawful.{isLawfulState}
 use Rattle.journal_state.specs.Calls.{Written, writeOf}
 use Rattle.journal_state.proofs.Files.{write-not, write-done}
-use Rattle.journal_batch.specs.Batch.{Filled, putOf, filledOf, Commit, isNew, commitOf}
+use Rattle.journal_batch.specs.Batch.{Filled, batchPutOf, filledOf, Commit, isNew, commitOf}
 
 -- ---- the block
 
 module _ (n : ℕ) (times records : List ℕ) where
   pub put-as : (block : List ℕ) (a : Appended) → a ≡ putRowsGiven block n times records
-      → record { number = a .number; block = a .buffer } ≡ putOf block n times records
-  unfolding putOf
+      → record { number = a .number; block = a .buffer } ≡ batchPutOf block n times records
+  unfolding batchPutOf
   put-as block a e = ap (λ (x : Appended). record { number = x .number; block = x .buffer }) e
 
   module _ (last : List ℕ) where
@@ -37,11 +37,11 @@ module _ (n : ℕ) (times records : List ℕ) where
 
     module _ (some : length times ≡ 0 → ⊥) where
       pub fill-blank : n % cellsPerBlock ≡ 0
-          → putOf (replicate blockLength 0) n times records ≡ filledOf last n times records
+          → batchPutOf (replicate blockLength 0) n times records ≡ filledOf last n times records
       unfolding filledOf
       fill-blank e = rw (ne-eqb (length times) 0 some, eq-eqb (n % cellsPerBlock) 0 e)
 
-      pub fill-behind : (n % cellsPerBlock ≡ 0 → ⊥) → putOf last n times records ≡ filledOf last n times records
+      pub fill-behind : (n % cellsPerBlock ≡ 0 → ⊥) → batchPutOf last n times records ≡ filledOf last n times records
       unfolding filledOf
       fill-behind h = rw (ne-eqb (length times) 0 some, ne-eqb (n % cellsPerBlock) 0 h)
 
@@ -49,27 +49,27 @@ module _ (n : ℕ) (times records : List ℕ) where
 
 module _ (k : Kept) (out : List ℕ) (r : Written) (e : r ≡ writeOf k out) where
   pub record Refused : Type 0 where
-    pub law : lawful k ≡ false
+    pub law : isLawfulState k ≡ false
     pub number : r .number ≡ numberOf NotAccepted
 
   pub record Done : Type 0 where
-    pub law : lawful k ≡ true
+    pub law : isLawfulState k ≡ true
     pub bytes : r .output ≡ stateBytes k 2
 
-  done : lawful k ≡ true → r ≡ record { number = 0; output = stateBytes k 2 }
+  done : isLawfulState k ≡ true → r ≡ record { number = 0; output = stateBytes k 2 }
   done t = e ∙ sym (write-done k out t)
 
-  refused : lawful k ≡ false → r ≡ record { number = numberOf NotAccepted; output = out }
+  refused : isLawfulState k ≡ false → r ≡ record { number = numberOf NotAccepted; output = out }
   refused f = e ∙ sym (write-not k out f)
 
   pub write-refused : (r .number ≡ 0 → ⊥) → Refused
   write-refused h =
-      by-test {X = Refused} (lawful k) (λ t. absurd (h (ap (λ (w : Written). w .number) (done t))))
+      by-test {X = Refused} (isLawfulState k) (λ t. absurd (h (ap (λ (w : Written). w .number) (done t))))
       (λ f. record { law = f; number = ap (λ (w : Written). w .number) (refused f) })
 
   pub write-did : r .number ≡ 0 → Done
   write-did z =
-      by-test {X = Done} (lawful k) (λ t. record { law = t; bytes = ap (λ (w : Written). w .output) (done t) })
+      by-test {X = Done} (isLawfulState k) (λ t. record { law = t; bytes = ap (λ (w : Written). w .output) (done t) })
       (λ f. absurd (let n : r .number ≡ 11 = ap (λ (w : Written). w .number) (refused f) in omega (arith, n, z)))
 
 -- ---- the batch
@@ -126,7 +126,7 @@ module _ (n : ℕ) (times records moments left : List ℕ) (next : List ℕ → 
         )
 
         module _ (room : new && leb (wholeBlocks file) at ≡ false) where
-          pub commit-unlawful : lawful (next (filled .block)) ≡ false → beside (numberOf NotAccepted) ≡ result
+          pub commit-unlawful : isLawfulState (next (filled .block)) ≡ false → beside (numberOf NotAccepted) ≡ result
           unfolding commitOf
           commit-unlawful h = rw (
             eq-eqb (compared .number) 0 same,
@@ -136,7 +136,7 @@ module _ (n : ℕ) (times records moments left : List ℕ) (next : List ℕ → 
             h,
           )
 
-          pub commit-done : lawful (next (filled .block)) ≡ true
+          pub commit-done : isLawfulState (next (filled .block)) ≡ true
               → record {
                 number = 0;
                 last = filled .block;

@@ -18,14 +18,14 @@ use Rattle.archive_fill.specs.Fill.{rowLength, rowsGiven}
 use Rattle.archive_fill.specs.Claims.{withBlock}
 use Rattle.archive_fill.proofs.Records.{rows-count}
 use Rattle.journal_model.specs.Disk as disk
-use Rattle.journal_model.specs.Disk.{State, Disk, counted, wholeBlocks, leftovers, agreeing, staying, going, asideWith, nextLines, stateAfter, written, writtenEnd, withRows, lastOf, committed}
+use Rattle.journal_model.specs.Disk.{State, Disk, counted, wholeBlocks, leftovers, agreeing, staying, going, asideWith, nextLines, stateAfterLines, blocksWritten, writtenEnd, withRows, lastBlockOf, committed}
 use Rattle.journal_model.specs.Claims.{lastBlock, paddedFiles, IsPlant, Stands, rowsAfter, keptState, Counts}
 use Rattle.journal_model.proofs.Kept.{Holds, fits, rows-fit, rows-next, taken-next, fit-next, end-is, last-written, state-next, newRows}
 use Rattle.journal_model.proofs.Counted.{left-is, fit-all, with-rows}
 use Rattle.journal_model.proofs.Claims.{counts-at, batched}
 use Rattle.journal_calls.specs.Rows.{Compared, comparedRows, compareCall}
 use Rattle.journal_state.specs.State.{Kept, stateBytes}
-use Rattle.journal_state.specs.Lawful.{lawful}
+use Rattle.journal_state.specs.Lawful.{isLawfulState}
 use Rattle.journal_recovery.specs.Claims.{IsSaid}
 use Rattle.journal_recovery.proofs.Recovers.{law}
 use Rattle.journal_batch.specs.Batch.{Filled, filledOf, Commit, isNew, commitOf}
@@ -186,9 +186,10 @@ module _ (before : List Row) (log : List (List ℕ)) (d : Disk) (count : ℕ) (t
 
   state-after : after before log d count .state ≡ keptState maxBlocks before log (n + length lines)
   state-after =
-      ap (λ (s : State). stateAfter s (nextLines log s count)) state-is ∙ state-next maxBlocks before log ok n count
+      ap (λ (s : State). stateAfterLines s (nextLines log s count)) state-is
+      ∙ state-next maxBlocks before log ok n count
 
-  lawful-after : (k : Kept) → IsSaid (after before log d count .state) k → lawful k ≡ true
+  lawful-after : (k : Kept) → IsSaid (after before log d count .state) k → isLawfulState k ≡ true
   lawful-after k said =
       let next : rowsAfter before log (n + length lines) ≡ rows ++ new =
       rows-next maxBlocks before log ok n count ∙ ap (λ (l : List Row). rows ++ l) (sym new-is) in
@@ -235,7 +236,7 @@ module _ (before : List Row) (log : List (List ℕ)) (d : Disk) (count : ℕ) (t
         (ap (λ (x : Compared). x .going) compared ∙ ap length none-goes)
         (ap (λ (x : Filled). x .number) filled)
         (ap₂ (λ (a k : ℕ). ltb a (length times) && leb m (k / cellsPerBlock)) agreed-is (counts .count) ∙ inside)
-        (ap (λ (b : List ℕ). lawful (next b)) last-is
+        (ap (λ (b : List ℕ). isLawfulState (next b)) last-is
         ∙ lawful-after (next (after before log d count .state .last)) said))
 
     commits : Committed before log d count call

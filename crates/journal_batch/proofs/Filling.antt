@@ -33,7 +33,7 @@ use Rattle.archive_cut.proofs.Cutting.{first-fits}
 use Rattle.journal_model.specs.Claims.{lastBlock, fileBlock, filesOf, paddedFiles}
 use Rattle.journal_model.proofs.Blocks.{front, front-prefix, front-length, archive-length, archive-last, last-some, is-buffer, buffer-front}
 use Rattle.journal_model.proofs.Files.{rest-fits}
-use Rattle.journal_batch.specs.Batch.{Filled, putOf, filledOf}
+use Rattle.journal_batch.specs.Batch.{Filled, batchPutOf, filledOf}
 
 -- ---- rows in any block
 
@@ -244,7 +244,7 @@ module _ (rows new : List Row) (times records : List ℕ) (given : rowsGiven tim
 
   pub filled-is : filledOf (lastBlock maxBlocks rows) (length rows) times records
       ≡ record { number = 0; block = lastBlock maxBlocks (rows ++ new) }
-  unfolding filledOf putOf putRowsGiven
+  unfolding filledOf batchPutOf putRowsGiven
   filled-is =
       by-test (eqb (length times) 0)
       (λ t.

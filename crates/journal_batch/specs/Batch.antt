@@ -13,7 +13,7 @@ use Rattle.archive_fill.specs.Claims.{withBlock}
 use Rattle.journal_model.specs.Disk.{wholeBlocks}
 use Rattle.journal_calls.specs.Rows.{compareCall}
 use Rattle.journal_state.specs.State.{Kept, stateBytes}
-use Rattle.journal_state.specs.Lawful.{lawful}
+use Rattle.journal_state.specs.Lawful.{isLawfulState}
 
 -- ---- the block
 
@@ -23,8 +23,8 @@ pub record Filled : Type 0 where
   pub block : List ℕ
 
 -- rows n, n + 1, .. are put into their block
-unfoldable pub putOf : (block : List ℕ) (n : ℕ) (times records : List ℕ) → Filled
-putOf block n times records =
+unfoldable pub batchPutOf : (block : List ℕ) (n : ℕ) (times records : List ℕ) → Filled
+batchPutOf block n times records =
     let a : Appended = putRowsGiven block n times records in record { number = a .number; block = a .buffer }
 
 -- the block with the rows: a blank block if the last one is full, else the last one with the rows after its own. If
@@ -32,7 +32,7 @@ putOf block n times records =
 unfoldable pub filledOf : (last : List ℕ) (n : ℕ) (times records : List ℕ) → Filled
 filledOf last n times records =
     cond (eqb (length times) 0) (record { number = 0; block = last })
-    (putOf (cond (eqb (n % cellsPerBlock) 0) (replicate blockLength 0) last) n times records)
+    (batchPutOf (cond (eqb (n % cellsPerBlock) 0) (replicate blockLength 0) last) n times records)
 
 -- ---- the batch
 
@@ -61,7 +61,7 @@ commitOf n times records moments left next last file state =
     (cond (not (eqb (compared .going) 0)) (refused (numberOf Mismatch))
     (cond (not (eqb (filled .number) 0)) (refused (filled .number))
     (cond (new && leb (wholeBlocks file) at) (refused (numberOf ShortOutput))
-    (cond (not (lawful (next (filled .block)))) (refused (numberOf NotAccepted))
+    (cond (not (isLawfulState (next (filled .block)))) (refused (numberOf NotAccepted))
     (record {
       number = 0;
       last = filled .block;

@@ -1,6 +1,5 @@
 // A batch of the plant's tool with an archive of one file, on the bytes of its files. It makes the calls that the tool makes (docs/CRASH.md, "A
 // commit"): it compares leftovers, writes the rows to the archive, then writes the state.
-use archive_file::Taken;
 use base_refusal::Refusal;
 use block_layout::BLOCK_LENGTH;
 use block_layout::CELLS_PER_BLOCK;
@@ -15,11 +14,10 @@ ghost use mathlib.Core.Bool.{true, cond};
 ghost use Prim.Native.Nat.{_<_};
 ghost use lib.ListN.{replicate};
 ghost use Rattle.block_layout.specs.Block.{blockLength};
-ghost use Rattle.archive_file.specs.Archive.{takenNumber};
 ghost use Rattle.archive_fill.specs.Claims.{withBlock};
 ghost use Rattle.journal_model.specs.Disk.{wholeBlocks};
 ghost use Rattle.journal_state.specs.State.{kept};
-ghost use Rattle.journal_batch.specs.Batch.{putOf, filledOf, commitOf};
+ghost use Rattle.journal_batch.specs.Batch.{batchPutOf, filledOf, commitOf};
 
 // Adds rows `count`, count + 1 and so on to the archive, all in one block, and writes the state that counts them. `moments` and `left` are the
 // leftovers at the positions of these rows; rows that are already there are not written again. `last` is the copy of the block with the last row.
@@ -104,21 +102,11 @@ fn fill(
 // Puts rows into a block, and returns the number of the answer.
 fn put(block: &mut [u8; BLOCK_LENGTH], count: usize, times: &[u64], records: &[u8]) -> u8
     ensures { λ r. ⌜ record { number = r; block = now (block .exit) }
-        ≡ putOf (now (block .entry)) count (now (times .entry)) (now (records .entry)) ⌝ }
+        ≡ batchPutOf (now (block .entry)) count (now (times .entry)) (now (records .entry)) ⌝ }
 {
     let filled = archive_fill::put_rows(block, count, times, records);
     let answer = filled.answer;
-    taken_number(answer)
-}
-
-// The number of an answer.
-fn taken_number(answer: Taken) -> u8
-    ensures { λ r. ⌜ r ≡ takenNumber answer ⌝ }
-{
-    match answer {
-        Taken::Done => 0,
-        Taken::Refused(why) => base_refusal::number(why),
-    }
+    base_refusal::outcome_number(answer)
 }
 
 // Writes a block of the archive, if it has new rows.

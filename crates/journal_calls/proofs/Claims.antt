@@ -23,7 +23,7 @@ use Rattle.archive_model.proofs.Pieces.{rows-count}
 use Rattle.archive_file.specs.Archive.{soundCount}
 use Rattle.archive_cut.proofs.Blocks.{block-unsound}
 use Rattle.journal_model.specs.Disk.{State, counted, lastUsed, isOther, mended, runFrom}
-use Rattle.journal_calls.specs.Block.{isCopyOf, judgementOf, judgementNumber}
+use Rattle.journal_calls.specs.Block.{isCutCopyOf, judgementOf, judgementNumber}
 use Rattle.journal_calls.specs.Run.{Run, startRun, stopped, passed, runBlock, runBlocks, runAt, runNumbers}
 use Rattle.journal_calls.specs.Claims.{mendedBy, judged, Judged, RunCounts, RunJoins, RunBack}
 use Rattle.journal_calls.proofs.Judged.{copy-is, copy-size}
@@ -32,7 +32,7 @@ use Rattle.journal_calls.proofs.Runs.{block-ended}
 -- ---- a block
 
 -- what is a copy is sound
-copy-sound : (last : List ℕ) (m : ℕ) (b : List ℕ) → isCopyOf last m b ≡ true → isSound b ≡ true
+copy-sound : (last : List ℕ) (m : ℕ) (b : List ℕ) → isCutCopyOf last m b ≡ true → isSound b ≡ true
 copy-sound last m b h =
     by-test {X = isSound b ≡ true} (isSound b) (λ t. t)
     (λ f.
@@ -47,14 +47,14 @@ module _ (s : State) (file : List ℕ) where
   b = blockAt (lastUsed s) file
 
   abbrev copied : Bool
-  copied = isCopyOf (s .last) (counted s - cellsPerBlock * lastUsed s) b
+  copied = isCutCopyOf (s .last) (counted s - cellsPerBlock * lastUsed s) b
 
   abbrev Right : Type 0
   Right = (eqb (judgementNumber (judged s file)) 3 ≡ isOther s file) × (isOther s file ≡ false → mendedBy
       (judged s file) (s .last) b ≡ mended s file)
 
   right-copy : copied ≡ true → Right
-  unfolding judgementOf isCopyOf
+  unfolding judgementOf isCutCopyOf
   right-copy h =
       let t = copy-sound (s .last) (counted s - cellsPerBlock * lastUsed s) b h in
       by-test {X = Right} (equal b (s .last)) (λ e. (rw (h, e), λ z. rw (h, e, t))) (λ e. (
@@ -64,7 +64,7 @@ module _ (s : State) (file : List ℕ) where
       ))
 
   right-other : copied ≡ false → Right
-  unfolding judgementOf isCopyOf
+  unfolding judgementOf isCutCopyOf
   right-other h =
       by-test {X = Right} (isSound b) (λ t. (rw (h, t), λ z. absurd (false≢true (sym (rw (h, t) at z)))))
       (λ f.

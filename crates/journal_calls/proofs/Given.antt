@@ -16,7 +16,7 @@ use Rattle.archive_model.specs.Row.{Row, rowsBlock, blockNumber, rowCount, isRo
 use Rattle.archive_model.specs.Buffer.{maxBlocks}
 use Rattle.archive_model.proofs.Blocks.{Fits, rows-block-length, number-back, count-back, block-sound}
 use Rattle.journal_calls.specs.Run.{Run, startRun, runBlock, runBlocks, isRun}
-use Rattle.journal_calls.specs.Claims.{RunAccepted, Given, RunGiven}
+use Rattle.journal_calls.specs.Claims.{RunAccepted, GivenByBlocks, RunGiven}
 use Rattle.journal_calls.proofs.Claims.{run-joins}
 use Rattle.journal_calls.proofs.Runs.{RunFacts, run-facts, run-is, block-next}
 
@@ -91,8 +91,8 @@ module _ (limit : ℕ) (positive : 0 < limit) (small : limit ≤ maxBlocks) wher
   at place blocks rows ended =
       record { limit = limit; place = place; blocks = blocks; rows = rows; ended = ended }
 
-  more : {r t : Run} → Given limit r → (b : List ℕ) → eqb (length b) blockLength ≡ true → runBlock r b ≡ t
-      → Given limit t
+  more : {r t : Run} → GivenByBlocks limit r → (b : List ℕ) → eqb (length b) blockLength ≡ true → runBlock r b ≡ t
+      → GivenByBlocks limit t
   unfolding runBlocks
   more {r} {t} g b l e = record {
     k = g .k;
@@ -132,7 +132,7 @@ module _ (limit : ℕ) (positive : 0 < limit) (small : limit ≤ maxBlocks) wher
       rw f (ap (λ (x : ℕ). x % limit) e ∙ mod-eq-of-lt low))
 
   -- full blocks
-  full : (b p : ℕ) → p < limit → Given limit (at p b (cellsPerBlock * b) false)
+  full : (b p : ℕ) → p < limit → GivenByBlocks limit (at p b (cellsPerBlock * b) false)
   unfolding runBlocks
   full zero p low = record {
     k = p;
@@ -152,7 +152,7 @@ module _ (limit : ℕ) (positive : 0 < limit) (small : limit ≤ maxBlocks) wher
 
   -- full ones and a short one
   short : (b p c : ℕ) → p < limit → 1 ≤ c → c < cellsPerBlock
-      → Given limit (at p (b + 1) (cellsPerBlock * b + c) true)
+      → GivenByBlocks limit (at p (b + 1) (cellsPerBlock * b + c) true)
   short b p c low some less =
       let q = prior p in
       let l = prior-low p low in
@@ -167,9 +167,10 @@ module _ (r : Run) (f : RunFacts r) where
 
   abbrev Has : ℕ → ℕ → Bool → Type 0
   Has blocks rows ended =
-      Given (r .limit) (record { limit = r .limit; place = r .place; blocks = blocks; rows = rows; ended = ended })
+      GivenByBlocks (r .limit)
+      (record { limit = r .limit; place = r .place; blocks = blocks; rows = rows; ended = ended })
 
-  going : r .ended ≡ false → Given (r .limit) r
+  going : r .ended ≡ false → GivenByBlocks (r .limit) r
   going e =
       let rows : cellsPerBlock * r .blocks ≡ r .rows = omega (arith, f .dense, f .full e) in
       let g : Has (r .blocks) (cellsPerBlock * r .blocks) false =
@@ -177,9 +178,9 @@ module _ (r : Run) (f : RunFacts r) where
       subst (λ (x : Bool). Has (r .blocks) (r .rows) x) (sym e)
       (subst (λ (n : ℕ). Has (r .blocks) n false) rows g)
 
-  ended : r .ended ≡ true → Given (r .limit) r
+  ended : r .ended ≡ true → GivenByBlocks (r .limit) r
   ended e =
-      by-test {X = Given (r .limit) r} (eqb (r .rows) (cellsPerBlock * r .blocks))
+      by-test {X = GivenByBlocks (r .limit) r} (eqb (r .rows) (cellsPerBlock * r .blocks))
       (λ t.
       let rows : cellsPerBlock * r .blocks ≡ r .rows = sym (eqb-true (r .rows) (cellsPerBlock * r .blocks) t) in
       let g = full (r .limit) positive (f .limited) (r .blocks) (r .place) (f .placed) in
@@ -204,4 +205,4 @@ module _ (r : Run) (f : RunFacts r) where
 pub run-given : RunGiven
 run-given r h =
     let f = run-facts r h in
-    by-test {X = Given (r .limit) r} (r .ended) (ended r f) (going r f)
+    by-test {X = GivenByBlocks (r .limit) r} (r .ended) (ended r f) (going r f)

@@ -17,13 +17,13 @@ use Rattle.base_refusal.specs.declared.Refusal.the-variants.{Size}
 use Rattle.block_layout.specs.Block.{blockLength}
 use Rattle.archive_model.specs.Row.{rowCount, isSound, isBlank}
 use Rattle.archive_model.proofs.Exact.{tests}
-use Rattle.archive_file.specs.declared.Taken.{Taken}
+use Rattle.base_refusal.specs.declared.Outcome.{Outcome}
 use Rattle.archive_file.specs.Archive.{soundCount}
 use Rattle.archive_cut.specs.Cut.{CutBlock, cutBlockOf}
 use Rattle.archive_cut.specs.Calls.{cutBlockResult}
 use Rattle.archive_cut.proofs.Blocks.{block-size}
 use Rattle.journal_calls.specs.declared.Judgement.the-variants.{Same, Longer, Torn, Other}
-use Rattle.journal_calls.specs.Block.{isCopyOf, judgementOf}
+use Rattle.journal_calls.specs.Block.{isCutCopyOf, judgementOf}
 
 -- what a cut block says of a copy
 abbrev pub says : List ℕ → CutBlock → Bool
@@ -38,18 +38,18 @@ pub sound-some : (b : List ℕ) → (soundCount b ≡ 0 → ⊥) → isSound b �
 sound-some b n = by-test {X = isSound b ≡ true} (isSound b) (λ t. t) (λ f. absurd (n (rw f refl)))
 
 module _ (last : List ℕ) (m : ℕ) (block : List ℕ) where
-  pub copy-is : (cut : CutBlock) → cut ≡ cutBlockOf m block → says last cut ≡ isCopyOf last m block
-  unfolding isCopyOf
+  pub copy-is : (cut : CutBlock) → cut ≡ cutBlockOf m block → says last cut ≡ isCutCopyOf last m block
+  unfolding isCutCopyOf
   copy-is cut e = ap (says last) e
 
-  pub copy-size : (length block ≡ blockLength → ⊥) → false ≡ isCopyOf last m block
+  pub copy-size : (length block ≡ blockLength → ⊥) → false ≡ isCutCopyOf last m block
   copy-size h = copy-is (record { number = numberOf Size; block = block }) (block-size m block h)
 
-  pub copy-told : (r : Taken) (cut after : List ℕ) → cut ≡ block → cutBlockResult r after ≡ cutBlockOf m cut
-      → says last (cutBlockResult r after) ≡ isCopyOf last m block
+  pub copy-told : (r : Outcome) (cut after : List ℕ) → cut ≡ block → cutBlockResult r after ≡ cutBlockOf m cut
+      → says last (cutBlockResult r after) ≡ isCutCopyOf last m block
   copy-told r cut after e h = copy-is (cutBlockResult r after) (h ∙ ap (cutBlockOf m) e)
 
-  module _ (copy : isCopyOf last m block ≡ true) where
+  module _ (copy : isCutCopyOf last m block ≡ true) where
     pub same : equal block last ≡ true → Same ≡ judgementOf last m block
     unfolding judgementOf
     same h = rw (copy, h)
@@ -58,7 +58,7 @@ module _ (last : List ℕ) (m : ℕ) (block : List ℕ) where
     unfolding judgementOf
     longer h = rw (copy, h)
 
-  module _ (none : isCopyOf last m block ≡ false) where
+  module _ (none : isCutCopyOf last m block ≡ false) where
     pub other-sound : (soundCount block ≡ 0 → ⊥) → Other ≡ judgementOf last m block
     unfolding judgementOf
     other-sound h = rw (none, sound-some block h)

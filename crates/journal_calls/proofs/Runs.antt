@@ -4,7 +4,7 @@
 --     block-ended, block-unsound, block-number, block-passed              one block more: the cases of `runBlock`
 --     block-next                                                           it leaves the numbers of a run
 --     rest-first, rest-next, rest-none                                     the loop over the blocks
---     feed-not, feed-odd, feed-many, feed-done                             the cases of `scanCall`
+--     feed-not, feed-odd, feed-many, feed-done                             the cases of `runCall`
 use Prim.Native.Nat.{ℕ, suc, _+_, _-_, _*_, _/_, _%_, _≤_, _<_}
 use native.Mathlib.Nat.{mod-lt}
 use native.Mathlib.Numerals.{add-one}
@@ -27,7 +27,7 @@ use Rattle.archive_model.specs.Buffer.{maxBlocks, blocksIn, isShort}
 use Rattle.archive_model.proofs.Exact.{tests}
 use Rattle.archive_file.specs.Archive.{soundCount}
 use Rattle.archive_file.proofs.Scans.{blocksFrom}
-use Rattle.journal_calls.specs.Run.{Run, stopped, passed, runBlock, runBlocks, isDense, isRun, runAt, runNumbers, ScanCall, scanCall}
+use Rattle.journal_calls.specs.Run.{Run, stopped, passed, runBlock, runBlocks, isDense, isRun, runAt, runNumbers, RunCall, runCall}
 use Rattle.journal_calls.proofs.Judged.{sound-none, sound-some}
 
 -- ---- numbers of a run
@@ -238,22 +238,22 @@ module _ (piece : List ℕ) where
 -- ---- the call
 
 module _ (numbers piece : List ℕ) where
-  abbrev kept : ℕ → ScanCall
+  abbrev kept : ℕ → RunCall
   kept n = record { number = n; numbers = numbers }
 
-  pub feed-not : isRun (runAt numbers) ≡ false → kept (numberOf NotAccepted) ≡ scanCall numbers piece
-  unfolding scanCall
+  pub feed-not : isRun (runAt numbers) ≡ false → kept (numberOf NotAccepted) ≡ runCall numbers piece
+  unfolding runCall
   feed-not h = rw h
 
   module _ (yes : isRun (runAt numbers) ≡ true) where
-    pub feed-odd : (length piece % blockLength ≡ 0 → ⊥) → kept (numberOf Size) ≡ scanCall numbers piece
-    unfolding scanCall
+    pub feed-odd : (length piece % blockLength ≡ 0 → ⊥) → kept (numberOf Size) ≡ runCall numbers piece
+    unfolding runCall
     feed-odd h = rw (yes, ne-eqb (length piece % blockLength) 0 h)
 
     module _ (whole : length piece % blockLength ≡ 0) where
       pub feed-many : maxBlocks < runAt numbers .blocks + length piece / blockLength → kept (numberOf Size)
-          ≡ scanCall numbers piece
-      unfolding scanCall
+          ≡ runCall numbers piece
+      unfolding runCall
       feed-many h =
           rw (
             yes,
@@ -264,8 +264,8 @@ module _ (numbers piece : List ℕ) where
 
       pub feed-done : runAt numbers .blocks + length piece / blockLength ≤ maxBlocks → (next : Run) → next
           ≡ runBlocks (runAt numbers) (blocksIn piece)
-          → record { number = 0; numbers = runNumbers next } ≡ scanCall numbers piece
-      unfolding scanCall
+          → record { number = 0; numbers = runNumbers next } ≡ runCall numbers piece
+      unfolding runCall
       feed-done h next e =
           rw (
             yes,

@@ -57,11 +57,11 @@ RunAccepted =
     → isRun (runBlocks r blocks) ≡ true
 
 -- Run given: numbers that are accepted are those that some blocks give, from some block on.
-pub record Given (limit : ℕ) (r : Run) : Type 0 where
+pub record GivenByBlocks (limit : ℕ) (r : Run) : Type 0 where
   pub k : ℕ
   pub blocks : List (List ℕ)
   pub long : all (λ b. eqb (length b) blockLength) blocks ≡ true
   pub give : runBlocks (startRun limit k) blocks ≡ r
 
 abbrev pub RunGiven : Type 0
-RunGiven = (r : Run) → isRun r ≡ true → Given (r .limit) r
+RunGiven = (r : Run) → isRun r ≡ true → GivenByBlocks (r .limit) r

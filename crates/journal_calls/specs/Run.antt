@@ -83,14 +83,14 @@ abbrev pub runNumbers : Run → List ℕ
 runNumbers r = r .limit ∷ r .place ∷ r .blocks ∷ r .rows ∷ cond (r .ended) 1 0 ∷ []
 
 -- the number, and every lent number after the call
-pub record ScanCall : Type 0 where
+pub record RunCall : Type 0 where
   pub number : ℕ
   pub numbers : List ℕ
 
 -- 11 for numbers that no blocks give; 16 for a piece that isn't whole blocks, or if there are then more than 2^32
 -- blocks
-unfoldable pub scanCall : List ℕ → List ℕ → ScanCall
-scanCall numbers piece =
+unfoldable pub runCall : List ℕ → List ℕ → RunCall
+runCall numbers piece =
     let r = runAt numbers in
     cond (not (isRun r)) (record { number = numberOf NotAccepted; numbers = numbers })
     (cond (not (eqb (length piece % blockLength) 0 && leb (r .blocks + length piece / blockLength) maxBlocks))

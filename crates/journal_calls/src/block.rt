@@ -1,10 +1,10 @@
 // The judgement on the block with the last row that a state counts.
 use crate::Judgement;
-use archive_file::Taken;
+use base_refusal::Outcome;
 use block_layout::BLOCK_LENGTH;
 ghost use mathlib.Core.Path.{_≡_};
 ghost use Rattle.archive_model.specs.Row.{blockNumber};
-ghost use Rattle.journal_calls.specs.Block.{isCopyOf, judgementOf, judgementNumber};
+ghost use Rattle.journal_calls.specs.Block.{isCutCopyOf, judgementOf, judgementNumber};
 
 // Judges the block, of which the state has a copy and counts the first `rows` rows.
 pub fn judge(last: &[u8], rows: usize, block: &[u8]) -> Judgement
@@ -49,7 +49,7 @@ pub fn number_of(block: &[u8]) -> u64
 
 // Whether a block, cut to its first `rows` rows, is the copy.
 fn is_copy(last: &[u8], rows: usize, block: &[u8]) -> bool
-    ensures { λ r. ⌜ r ≡ isCopyOf (now (last .entry)) rows (now (block .entry)) ⌝ }
+    ensures { λ r. ⌜ r ≡ isCutCopyOf (now (last .entry)) rows (now (block .entry)) ⌝ }
 {
     if block.len() != BLOCK_LENGTH {
         return false;
@@ -58,7 +58,7 @@ fn is_copy(last: &[u8], rows: usize, block: &[u8]) -> bool
     block_layout::put_bytes(&mut cut, block);
     let answer = archive_cut::cut_block(&mut cut, rows);
     match answer {
-        Taken::Done => block_layout::equal(&cut, last),
-        Taken::Refused(_) => false,
+        Outcome::Done => block_layout::equal(&cut, last),
+        Outcome::Refused(_) => false,
     }
 }

@@ -11,7 +11,7 @@ ghost use Prim.Native.Nat.{_+_, _/_, _≤_, _<_};
 ghost use lib.ListN.{length};
 ghost use Rattle.block_layout.specs.Block.{blockLength};
 ghost use Rattle.archive_model.specs.Buffer.{blocksIn, maxBlocks};
-ghost use Rattle.journal_calls.specs.Run.{runOf, runAt, runNumbers, isDense, isRun, stopped, runBlock, runBlocks, scanCall};
+ghost use Rattle.journal_calls.specs.Run.{runOf, runAt, runNumbers, isDense, isRun, stopped, runBlock, runBlocks, runCall};
 
 // How many blocks a file has, the number that the next block must have, how many blocks were read, how many rows they have, and a number that is not
 // 0 if the run has ended.
@@ -21,7 +21,7 @@ pub const NUMBERS: usize = 5;
 // blocks; then every number is unchanged.
 pub fn feed(numbers: &mut [u64; NUMBERS], piece: &[u8]) -> u8
     ensures { λ r. ⌜ record { number = r; numbers = now (numbers .exit) }
-        ≡ scanCall (now (numbers .entry)) (now (piece .entry)) ⌝ }
+        ≡ runCall (now (numbers .entry)) (now (piece .entry)) ⌝ }
 {
     let r = run_in(numbers);
     if !is_run(r) {

@@ -14,12 +14,12 @@ use Rattle.base_lists.proofs.Tests.{and-true}
 use Rattle.collector_model.specs.Answer.{Shown, Kept, Copy, Loose, Refused}
 use Rattle.collector_model.specs.View.{Reception}
 use Rattle.collector_model.specs.Reference.{answerTo, logOf}
-use Rattle.history_rows.specs.Rows.{isRow}
+use Rattle.history_rows.specs.Rows.{isRowAnswer}
 use Rattle.history_rows.proofs.Thinned.{Thinned, thinned-same, thinned-answer, thinned-row, thinned-other}
 use Rattle.text_lines.specs.Hex.{maxBytes, nibbleOf, isHexDigit, isHex, hexBytes}
 use Rattle.text_lines.specs.Reading.{Reading, reception, bad, lineReading}
 use Rattle.text_lines.proofs.Whole.{said}
-use Rattle.text_rows.specs.Claims.{areBytes}
+use Rattle.base_numbers.specs.Bytes.{areBytes}
 use Rattle.text_rows.proofs.ReadBack.{lines-back}
 use Rattle.archive_model.specs.Row.{Row}
 use Rattle.archive_model.specs.Row as row
@@ -28,7 +28,7 @@ use Rattle.archive_model.proofs.Blocks.{short}
 use Rattle.text_collect.specs.Printed.{receptionAt, pastAfterLine, pastAfterLines}
 use Rattle.journal_model.specs.Rows.{rowFor, rowsBy, modelRows}
 use Rattle.journal_model.specs.Disk.{rowLine}
-use Rattle.journal_model.specs.Claims.{HandedOver, RowsAlone}
+use Rattle.journal_model.specs.Claims.{HandedOver, LinesRowsAlone}
 use Rattle.journal_model.proofs.Rows.{said-small, answer-valid}
 
 -- ---- a line says bytes
@@ -86,13 +86,13 @@ module _ (l : List ℕ) (ls : List (List ℕ)) (ih : Again ls) (p q : List Recep
   rest = modelRows (r ∷ p) ls
 
   abbrev RowOf : Shown → Row → Type 0
-  RowOf a row = (rowFor a r ≡ row ∷ []) × (row .time ≡ t) × (row .bytes ≡ bs) × (isRow a ≡ true)
+  RowOf a row = (rowFor a r ≡ row ∷ []) × (row .time ≡ t) × (row .bytes ≡ bs) × (isRowAnswer a ≡ true)
 
   given : (a : Shown) → answerTo (logOf p) r ≡ a → (row : Row) → RowOf a row → (k : ℕ)
       → modelRows q (map rowLine (take (suc k) (row ∷ rest))) ≡ take (suc k) (row ∷ rest)
   given a is row (row-is, is-time, is-bytes, counts) k =
       let same : answerTo (logOf p) r ≡ answerTo (logOf q) r =
-      thinned-answer (logOf p) (logOf q) h r (ap isRow is ∙ counts) in
+      thinned-answer (logOf p) (logOf q) h r (ap isRowAnswer is ∙ counts) in
       let fit : all isFit (row ∷ []) ≡ true =
       ap (all isFit) (sym row-is ∙ ap (λ (s : Shown). rowFor s r) (sym is))
       ∙ answer-valid (logOf p) r (said-small l e) in
@@ -100,11 +100,12 @@ module _ (l : List ℕ) (ls : List (List ℕ)) (ih : Again ls) (p q : List Recep
       let says : lineReading (rowLine row) ≡ reception t bs
       = handed-over row ok (ap areBytes is-bytes ∙ said-bytes l e) ∙ ap₂ reception is-time is-bytes in
       row-again q r row (take k rest) (take k rest) says (ap (λ (s : Shown). rowFor s r) (sym same ∙ is) ∙ row-is)
-      (ih (r ∷ p) (r ∷ q) k (thinned-row (logOf p) (logOf q) h r (ap isRow is ∙ counts)))
+      (ih (r ∷ p) (r ∷ q) k (thinned-row (logOf p) (logOf q) h r (ap isRowAnswer is ∙ counts)))
 
-  other : (a : Shown) → answerTo (logOf p) r ≡ a → isRow a ≡ false → (k : ℕ)
+  other : (a : Shown) → answerTo (logOf p) r ≡ a → isRowAnswer a ≡ false → (k : ℕ)
       → modelRows q (map rowLine (take k rest)) ≡ take k rest
-  other a is none k = ih (r ∷ p) q k (thinned-other (logOf p) (logOf q) h r (answerTo (logOf p) r) (ap isRow is ∙ none))
+  other a is none k = ih (r ∷ p) q k
+      (thinned-other (logOf p) (logOf q) h r (answerTo (logOf p) r) (ap isRowAnswer is ∙ none))
 
   by-answer : (a : Shown) → answerTo (logOf p) r ≡ a → (k : ℕ)
       → modelRows q (map rowLine (take k (rowFor a r ++ rest))) ≡ take k (rowFor a r ++ rest)
@@ -130,7 +131,7 @@ again [] p q zero h = refl
 again [] p q (suc k) h = refl
 again (l ∷ ls) p q k h = by-line l ls (again ls) p q k h (lineReading l) refl
 
-pub rows-alone : RowsAlone
+pub rows-alone : LinesRowsAlone
 rows-alone log lines k =
     let past = pastAfterLines [] log in
     again lines past past k (thinned-same (logOf past))

@@ -11,7 +11,7 @@ use borrow.Author.Tests.{eqb-true, eqb-false, eq-eqb, ne-eqb}
 use Rattle.base_lists.proofs.Tests.{by-test}
 use Rattle.base_buffers.proofs.Segments.{take-clamped}
 use Rattle.text_rows.specs.Formats.{headingIn}
-use Rattle.journal_model.specs.Out.{Out, OutEvent, Print, Stop, OutLeft, early, late, textOf, nextOf, batchText, printed, cutOut, outRun, IsOutRun, topOf, EachOnce, OnceInFile, rowBehind, FirstLineSilent, OnceInFormat}
+use Rattle.journal_model.specs.Out.{Out, OutEvent, Print, Stop, OutLeft, early, late, textBehind, nextOf, batchText, printBatch, cutOut, outRun, IsOutRun, topOf, RowsOnce, OnceInFile, rowAfterLines, FirstLineSilent, OnceInFormat}
 
 no-bytes : (xs : List ℕ) → length xs ≡ 0 → xs ≡ []
 no-bytes [] e = refl
@@ -19,10 +19,10 @@ no-bytes (x ∷ xs) e = absurd (omega arith)
 
 module _ (text : List (List ℕ) → List ℕ → List ℕ) (heading : List ℕ) (log : List (List ℕ)) where
   abbrev said : List (List ℕ) → List (List ℕ) → List ℕ
-  said = textOf text heading log
+  said = textBehind text heading log
 
   text-append : (xs ys before : List (List ℕ)) → said before (xs ++ ys) ≡ said before xs ++ said (before ++ xs) ys
-  unfolding textOf
+  unfolding textBehind
   text-append [] ys before = ap (λ (b : List (List ℕ)). said b ys) (sym (append-nil before))
   text-append (x ∷ xs) ys before =
       let next = before ++ (x ∷ []) in
@@ -31,14 +31,14 @@ module _ (text : List (List ℕ) → List ℕ → List ℕ) (heading : List ℕ)
       (append-assoc before (x ∷ []) xs))
       ∙ sym (append-assoc (text before x) (said next xs) (said (before ++ (x ∷ xs)) ys))
 
-  module _ (old : List ℕ) (o : Out) (once : EachOnce text heading log old o) where
+  module _ (old : List ℕ) (o : Out) (once : RowsOnce text heading log old o) where
     abbrev rows : List ℕ
     rows = said [] (take (o .lines) log)
 
     all-there : take (o .size) (o .file) ≡ o .file
     all-there = take-all (o .size) (o .file) (omega (arith, once .counted))
 
-    cut-once : EachOnce text heading log old (cutOut text heading log o)
+    cut-once : RowsOnce text heading log old (cutOut text heading log o)
     cut-once = record {
       is = all-there ∙ once .is;
       counted = once .counted ∙ sym (ap length all-there);
@@ -55,7 +55,7 @@ module _ (text : List (List ℕ) → List ℕ → List ℕ) (heading : List ℕ)
       new = batchText text heading log o count
 
       abbrev next : Out
-      next = printed text heading log o count
+      next = printBatch text heading log o count
 
       rows-next : said [] (take (next .lines) log) ≡ rows ++ more
       rows-next =
@@ -90,7 +90,7 @@ module _ (text : List (List ℕ) → List ℕ → List ℕ) (heading : List ℕ)
           (λ z. rw (eq-eqb (length old) 0 bare, z) (no-bytes heading (omega (arith, long, eqb-true (next .size) 0 z))))
           (λ f. rw (eq-eqb (length old) 0 bare, f) refl)
 
-      first : eqb (o .size) 0 ≡ true → EachOnce text heading log old next
+      first : eqb (o .size) 0 ≡ true → RowsOnce text heading log old next
       first t =
           let z = eqb-true (o .size) 0 t in
           let all : o .file ≡ [] = no-bytes (o .file) (omega (arith, once .counted)) in
@@ -119,7 +119,7 @@ module _ (text : List (List ℕ) → List ℕ → List ℕ) (heading : List ℕ)
           ne-eqb (next .size) 0 (λ z. eqb-false (o .size) 0 f (omega (arith, z))) in
           ap (λ (b : Bool). cond (eqb (length old) 0 && not b) heading []) (f ∙ sym some)
 
-      later : eqb (o .size) 0 ≡ false → EachOnce text heading log old next
+      later : eqb (o .size) 0 ≡ false → RowsOnce text heading log old next
       later f = record {
         is = file-is ∙ ap₂ (λ (a b : List ℕ). a ++ b) (once .is) (ap (λ (b : Bool). cond b heading [] ++ more) f)
             ∙ append-assoc old (top o ++ rows) more
@@ -128,27 +128,28 @@ module _ (text : List (List ℕ) → List ℕ → List ℕ) (heading : List ℕ)
         counted = size-is;
       }
 
-      print-once : EachOnce text heading log old next
-      print-once = by-test {X = EachOnce text heading log old next} (eqb (o .size) 0) first later
+      print-once : RowsOnce text heading log old next
+      print-once = by-test {X = RowsOnce text heading log old next} (eqb (o .size) 0) first later
 
     early-once : (file : List ℕ) → o .size ≤ length file → take (o .size) file ≡ take (o .size) (o .file)
-        → EachOnce text heading log old
+        → RowsOnce text heading log old
         (cutOut text heading log (record { lines = o .lines; size = o .size; file = file }))
     early-once file long same = record {
       is = same ∙ all-there ∙ once .is;
       counted = omega (arith, length-take (o .size) file);
     }
 
-  left-once : (old : List ℕ) (o left : Out) → EachOnce text heading log old o → OutLeft text heading log o left
-      → EachOnce text heading log old (cutOut text heading log left)
+  left-once : (old : List ℕ) (o left : Out) → RowsOnce text heading log old o → OutLeft text heading log o left
+      → RowsOnce text heading log old (cutOut text heading log left)
   left-once old o left once (early file long same) = early-once old o once file long same
-  left-once old o left once (late count) = cut-once old (printed text heading log o count) (print-once old o once count)
+  left-once old o left once (late count) = cut-once old (printBatch text heading log o count)
+      (print-once old o once count)
 
-  run-once : (es : List OutEvent) (old : List ℕ) (o : Out) → EachOnce text heading log old o
+  run-once : (es : List OutEvent) (old : List ℕ) (o : Out) → RowsOnce text heading log old o
       → IsOutRun text heading log o es
-      → EachOnce text heading log old (outRun text heading log o es)
+      → RowsOnce text heading log old (outRun text heading log o es)
   run-once [] old o once may = once
-  run-once (Print count ∷ es) old o once may = run-once es old (printed text heading log o count)
+  run-once (Print count ∷ es) old o once may = run-once es old (printBatch text heading log o count)
       (print-once old o once count) (may .1)
   run-once (Stop left ∷ es) old o once may = run-once es old (cutOut text heading log left)
       (left-once old o left once (may .0)) (may .1)
@@ -159,7 +160,7 @@ top-none heading old = by-test {X = cond (eqb (length old) 0 && not (eqb (length
     (eqb (length old) 0) (λ t. rw t refl) (λ f. rw f refl)
 
 pub once-in-file : OnceInFile
-unfolding textOf
+unfolding textBehind
 once-in-file text heading log old es may =
     run-once text heading log es old (record { lines = 0; size = length old; file = old })
     (record {
@@ -169,7 +170,7 @@ once-in-file text heading log old es may =
     may
 
 pub once-in-format : OnceInFormat
-once-in-format f setting log old es may = once-in-file (rowBehind f setting) (headingIn f) log old es may
+once-in-format f setting log old es may = once-in-file (rowAfterLines f setting) (headingIn f) log old es may
 
 pub first-line-silent : FirstLineSilent
 first-line-silent f setting level l e = rw e refl

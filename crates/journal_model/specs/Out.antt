@@ -31,9 +31,9 @@ pub data OutEvent : Type 0 where
 -- `log`: the lines of a log.
 module _ (text : List (List ℕ) → List ℕ → List ℕ) (heading : List ℕ) (log : List (List ℕ)) where
   -- what lines print after other lines
-  unfoldable pub textOf : List (List ℕ) → List (List ℕ) → List ℕ
-  textOf before [] = []
-  textOf before (l ∷ ls) = text before l ++ textOf (before ++ (l ∷ [])) ls
+  unfoldable pub textBehind : List (List ℕ) → List (List ℕ) → List ℕ
+  textBehind before [] = []
+  textBehind before (l ∷ ls) = text before l ++ textBehind (before ++ (l ∷ [])) ls
 
   -- the lines of the next batch
   abbrev pub nextOf : Out → ℕ → List (List ℕ)
@@ -41,11 +41,11 @@ module _ (text : List (List ℕ) → List ℕ → List ℕ) (heading : List ℕ)
 
   -- what a batch prints; the heading first, if the file is empty
   abbrev pub batchText : Out → ℕ → List ℕ
-  batchText o count = cond (eqb (o .size) 0) heading [] ++ textOf (take (o .lines) log) (nextOf o count)
+  batchText o count = cond (eqb (o .size) 0) heading [] ++ textBehind (take (o .lines) log) (nextOf o count)
 
   -- the rows of a batch are written after the bytes that the state counts; then the state is replaced
-  abbrev pub printed : Out → ℕ → Out
-  printed o count =
+  abbrev pub printBatch : Out → ℕ → Out
+  printBatch o count =
       let new = batchText o count in
       record {
         lines = o .lines + length (nextOf o count);
@@ -62,11 +62,11 @@ module _ (text : List (List ℕ) → List ℕ → List ℕ) (heading : List ℕ)
   pub data OutLeft (o : Out) : Out → Type 0 where
     early : (file : List ℕ) → o .size ≤ length file → take (o .size) file ≡ take (o .size) (o .file)
         → OutLeft o (record { lines = o .lines; size = o .size; file = file })
-    late : (count : ℕ) → OutLeft o (printed o count)
+    late : (count : ℕ) → OutLeft o (printBatch o count)
 
   -- the file after an event
   abbrev pub outNext : Out → OutEvent → Out
-  outNext o (Print count) = printed o count
+  outNext o (Print count) = printBatch o count
   outNext o (Stop left) = cutOut left
 
   -- the file after all events
@@ -89,8 +89,8 @@ module _ (text : List (List ℕ) → List ℕ → List ℕ) (heading : List ℕ)
   topOf old o = cond (eqb (length old) 0 && not (eqb (o .size) 0)) heading []
 
   -- after what was in the file before: the heading, and each row of the lines that were taken, once and in order
-  pub record EachOnce (old : List ℕ) (o : Out) : Type 0 where
-    pub is : o .file ≡ old ++ (topOf old o ++ textOf [] (take (o .lines) log))
+  pub record RowsOnce (old : List ℕ) (o : Out) : Type 0 where
+    pub is : o .file ≡ old ++ (topOf old o ++ textBehind [] (take (o .lines) log))
     pub counted : o .size ≡ length (o .file)
 
 -- Once in file: after batches of any size and crashes at any time with any outcome, each row of the lines that the
@@ -100,7 +100,7 @@ OnceInFile =
     (text : List (List ℕ) → List ℕ → List ℕ) (heading : List ℕ) (log : List (List ℕ)) (old : List ℕ)
     (es : List OutEvent)
     → let o : Out = record { lines = 0; size = length old; file = old } in
-    IsOutRun text heading log o es → EachOnce text heading log old (outRun text heading log o es)
+    IsOutRun text heading log o es → RowsOnce text heading log old (outRun text heading log o es)
 
 -- ---- the formats
 
@@ -110,8 +110,8 @@ unlessLevel (Setting.Level n) row = []
 unlessLevel Setting.Bad row = row
 
 -- what a line prints after other lines in a format, by the reference model
-abbrev pub rowBehind : Format → (setting : ℕ) → List (List ℕ) → List ℕ → List ℕ
-rowBehind f setting before l =
+abbrev pub rowAfterLines : Format → (setting : ℕ) → List (List ℕ) → List ℕ → List ℕ
+rowAfterLines f setting before l =
     let view = modelView (logOf (pastAfterLines [] before)) in
     let row = lineIn f (record { setting = setting; view = view }) (lineReading l) in
     cond (eqb (length before) 0) (unlessLevel (settingOf l) row) row
@@ -119,12 +119,13 @@ rowBehind f setting before l =
 -- First line silent: nothing is printed for a first line that says a level.
 abbrev pub FirstLineSilent : Type 0
 FirstLineSilent =
-    (f : Format) (setting level : ℕ) (l : List ℕ) → settingOf l ≡ Setting.Level level → rowBehind f setting [] l ≡ []
+    (f : Format) (setting level : ℕ) (l : List ℕ) → settingOf l ≡ Setting.Level level
+    → rowAfterLines f setting [] l ≡ []
 
 -- Once in format: the same for the rows of a format, with its heading.
 abbrev pub OnceInFormat : Type 0
 OnceInFormat =
     (f : Format) (setting : ℕ) (log : List (List ℕ)) (old : List ℕ) (es : List OutEvent)
     → let o : Out = record { lines = 0; size = length old; file = old } in
-    let text = rowBehind f setting in
-    IsOutRun text (headingIn f) log o es → EachOnce text (headingIn f) log old (outRun text (headingIn f) log o es)
+    let text = rowAfterLines f setting in
+    IsOutRun text (headingIn f) log o es → RowsOnce text (headingIn f) log old (outRun text (headingIn f) log o es)

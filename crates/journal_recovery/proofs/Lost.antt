@@ -1,6 +1,6 @@
 -- The blocks up to the last counted one, as a start finds them.
 --     lost-short, lost-rows, lost-damaged, lost-refused, lost-there      the cases of `lostAt`
---     found-none, found-lost, found-judged                   the cases of `Found`
+--     found-none, found-lost, found-judged                   the cases of `FoundAs`
 use Prim.Native.Nat.{ℕ, _+_, _-_, _*_, _/_, _%_, _≤_, _<_}
 use native.Mathlib.Nat.{mod-eq-of-lt}
 use native.Mathlib.Omega.{arith}
@@ -25,7 +25,7 @@ use Rattle.journal_calls.specs.declared.Judgement.the-variants.{Same, Other}
 use Rattle.journal_calls.specs.Block.{judgementOf, judgementNumber}
 use Rattle.journal_calls.specs.Claims.{mendedBy, judged}
 use Rattle.journal_calls.proofs.Claims.{judged-right}
-use Rattle.journal_recovery.specs.Private.{Says, lostAt, Found}
+use Rattle.journal_recovery.specs.Private.{Says, lostAt, FoundAs}
 
 module _ (at : ℕ) (file : List ℕ) where
   abbrev front : List ℕ
@@ -65,7 +65,7 @@ module _ (n : ℕ) (copy file : List ℕ) (s : State) (says : Says n copy s) whe
   abbrev last : ℕ
   last = blocksFor n - 1
 
-  pub found-none : n ≡ 0 → Found s file Same
+  pub found-none : n ≡ 0 → FoundAs s file Same
   found-none z =
       let none = says .count ∙ z in
       record {
@@ -91,7 +91,7 @@ module _ (n : ℕ) (copy file : List ℕ) (s : State) (says : Says n copy s) whe
         let used : usedBlocks s ≡ last + 1 = ap blocksFor (says .count) ∙ omega (arith, some) in
         λ i. lostBy (from i) (place i) (used i)
 
-    pub found-lost : lostAt last file ≡ true → Found s file Other
+    pub found-lost : lostAt last file ≡ true → FoundAs s file Other
     found-lost t = record {
       foreign = sym (ap₂ (λ (a b : Bool). a && (b || isOther s file)) (lt-ltb 0 (counted s) positive) (lost-is ∙ t));
       mends = λ f h. absurd (false≢true (sym f));
@@ -108,7 +108,7 @@ module _ (n : ℕ) (copy file : List ℕ) (s : State) (says : Says n copy s) whe
       other : eqb (judgementNumber j) 3 ≡ isOther s file
       other = ap (λ (k : Judgement). eqb (judgementNumber k) 3) same ∙ judged-right s file .0
 
-      pub found-judged : Found s file j
+      pub found-judged : FoundAs s file j
       found-judged = record {
         foreign = other ∙ sym (ap₂ (λ (a b : Bool). a && (b || isOther s file)) (lt-ltb 0 (counted s) positive)
             (lost-is ∙ there));

@@ -24,7 +24,7 @@ use Rattle.archive_model.proofs.Blocks.{Fits, number-back, count-back, block-so
 use Rattle.archive_model.proofs.Buffers.{group-few, group-fits, group-length}
 use Rattle.text_collect.specs.Printed.{pastAfterLines}
 use Rattle.journal_model.specs.Disk.{State, Disk, collectorIn, counted, wholeBlocks, tailRows, leftovers}
-use Rattle.journal_model.specs.Crash.{leftBy}
+use Rattle.journal_model.specs.Crash.{leavingAll}
 use Rattle.journal_model.specs.Claims.{lastBlock, fileBlock, paddedFiles, IsPlant, rowsAfter, keptState, Crashed}
 use Rattle.journal_model.proofs.Rows.{took-all}
 use Rattle.journal_model.proofs.Kept.{Holds, unfits, rows-fit, kept-holds}
@@ -33,14 +33,14 @@ use Rattle.journal_model.proofs.Foreign.{not-foreign}
 use Rattle.journal_model.proofs.Start.{tail-left, behind, behind-fits, recovers}
 use Rattle.journal_model.proofs.Claims.{Reached, crash-reached, survives, cut-state}
 use Rattle.journal_state.specs.State.{Kept, had, began, nameLength, maxName, stateLength, oldLength, stateBytes, readState}
-use Rattle.journal_state.specs.Lawful.{imageRows, isLastOf, isFile, isAttached, lawful}
+use Rattle.journal_state.specs.Lawful.{imageRows, isLastOf, isFile, isAttached, isLawfulState}
 use Rattle.journal_state.specs.Calls.{Accepted, acceptOf}
 use Rattle.journal_state.specs.Claims.{stateOf}
 use Rattle.journal_state.proofs.Laws.{held, file-last, name-some, law-out}
 use Rattle.journal_state.proofs.Read.{state-length}
 use Rattle.journal_state.proofs.Files.{accept-done}
 use Rattle.journal_state.proofs.Claims.{state-read}
-use Rattle.journal_recovery.specs.Start.{Start, isOneFile, diskOf, acceptNumber, withWhole, settledOf, startOf}
+use Rattle.journal_recovery.specs.Start.{Start, isOneFile, diskOf, acceptNumber, withWhole, settledOf, startResult}
 use Rattle.journal_recovery.specs.Claims.{IsSaid, IsFileOf, Recovered, StartRecovers}
 use Rattle.journal_recovery.proofs.Started.{start-settled}
 
@@ -121,7 +121,7 @@ module _ (before : List Row) (log : List (List ℕ)) (plant : IsPlant maxBlocks 
         ∙ ap₂ isLastOf e (ap (λ (s : State). s .last) (f .says))
         ∙ last-is rows fit-rows few
 
-    pub law : lawful k ≡ true
+    pub law : isLawfulState k ≡ true
     law =
         let attached = sym (name-some k (imageRows (k .image)) (f .short) (f .clean) named) ∙ file-right in
         sym (law-out k accepted attached (f .placed)) ∙ f .printed
@@ -138,7 +138,7 @@ module _ (before : List Row) (log : List (List ℕ)) (plant : IsPlant maxBlocks 
 
     -- the start is that of the archive beside the state
     start-is : (file : List ℕ) (old : ℕ) → wholeBlocks file ≤ maxBlocks
-        → startOf whole file old ≡ settledOf state file old
+        → startResult whole file old ≡ settledOf state file old
     start-is file old room =
         let back = state-read k (f .sized) law .0 in
         sym (start-settled whole file old room number-none (ap isOneFile back ∙ one))
@@ -171,10 +171,10 @@ module _ (before : List Row) (log : List (List ℕ)) (plant : IsPlant maxBlocks 
         (λ i. record { number = 0; archive = withWhole (same i) file; left = length (rest-is i) })
 
     recovered : (bytes : List ℕ) → IsFileOf state bytes → wholeBlocks file ≤ maxBlocks → (old : ℕ)
-        → Recovered before log n file (startOf bytes file old)
+        → Recovered before log n file (startResult bytes file old)
     recovered bytes f room old =
         let few : length rows ≤ maxRows = omega (arith, left .low, room) in
-        let is = ap (λ (b : List ℕ). startOf b file old) (f .is)
+        let is = ap (λ (b : List ℕ). startResult b file old) (f .is)
         ∙ start-is (f .kept) (f .said) few file old room ∙ settled-is old in
         record {
           rest = rest;
@@ -190,10 +190,10 @@ module _ (before : List Row) (log : List (List ℕ)) (plant : IsPlant maxBlocks 
 pub start-recovers : StartRecovers
 start-recovers before log d left again c room bytes f old =
     let plant = c .plant in
-    let file = leftBy left again .archive in
+    let file = leavingAll left again .archive in
     let hit = crash-reached maxBlocks before log plant d (c .stood) left (c .leaves) in
     let r = survives maxBlocks before log plant again left hit (c .starts) in
     let at : left .state ≡ keptState maxBlocks before log (r .at) = sym (cut-state again left) ∙ r .state in
     let f' : IsFileOf (keptState maxBlocks before log (r .at)) bytes = subst (λ (s : State). IsFileOf s bytes) at f in
-    subst (λ (x : ℕ). Recovered before log x file (startOf bytes file old)) (sym (ap (λ (s : State). s .lines) at))
+    subst (λ (x : ℕ). Recovered before log x file (startResult bytes file old)) (sym (ap (λ (s : State). s .lines) at))
     (recovered before log plant (r .at) file (r .left) bytes f' room old)

@@ -30,7 +30,7 @@ use Rattle.journal_calls.specs.declared.Judgement.the-variants.{Same}
 use Rattle.journal_calls.specs.Block.{judgementNumber}
 use Rattle.journal_calls.specs.Claims.{mendedBy}
 use Rattle.journal_recovery.specs.Start.{Start, diskOf, withWhole, settledOf}
-use Rattle.journal_recovery.specs.Private.{Says, Found, runRows, sweptAt, Sweeps}
+use Rattle.journal_recovery.specs.Private.{Says, FoundAs, runRows, sweptAt, Sweeps}
 
 pub same-block : (at : ℕ) (file : List ℕ) → withBlock at (blockAt at file) file ≡ file
 same-block at file =
@@ -90,7 +90,7 @@ module _ (at : ℕ) (block file : List ℕ) (long : length block ≡ blockLength
 -- ---- the start
 
 module _ (n : ℕ) (copy : List ℕ) (long : length copy ≡ blockLength) (s : State) (says : Says n copy s) (file : List ℕ)
-    (j : Judgement) (found : Found s file j) (blank : n ≡ 0 → j ≡ Same) (left : ℕ) where
+    (j : Judgement) (found : FoundAs s file j) (blank : n ≡ 0 → j ≡ Same) (left : ℕ) where
   abbrev d : Disk
   d = diskOf s file
 

@@ -1,4 +1,4 @@
--- The cases of `startOf`, and what is known of a state that is accepted.
+-- The cases of `startResult`, and what is known of a state that is accepted.
 use Prim.Native.Nat.{ℕ, _+_, _≤_, _<_}
 use native.Mathlib.Omega.{arith}
 use mathlib.Core.Path.{_≡_, sym, ap, _∙_}
@@ -15,14 +15,14 @@ use Rattle.collector_model.specs.Image.{accepts}
 use Rattle.archive_model.specs.Buffer.{maxBlocks}
 use Rattle.journal_model.specs.Disk.{counted, wholeBlocks}
 use Rattle.journal_state.specs.State.{Kept, began, had, nameLength, stateLength, oldLength, readState}
-use Rattle.journal_state.specs.Lawful.{imageRows, lawful, acceptsState}
+use Rattle.journal_state.specs.Lawful.{imageRows, isLawfulState, acceptsState}
 use Rattle.journal_state.specs.Calls.{Accepted, acceptOf}
 use Rattle.journal_state.specs.Claims.{stateOf, IsModelled}
 use Rattle.journal_state.specs.Private.{Sized}
 use Rattle.journal_state.proofs.Files.{lengths, sized, accept-size, accept-not, accept-done}
 use Rattle.journal_state.proofs.Claims.{state-written}
 use Rattle.journal_state.proofs.Modelled.{state-modelled}
-use Rattle.journal_recovery.specs.Start.{Start, isOneFile, acceptNumber, settledOf, startOf}
+use Rattle.journal_recovery.specs.Start.{Start, isOneFile, acceptNumber, settledOf, startResult}
 use Rattle.journal_recovery.specs.Private.{IsCounted}
 
 module _ (bytes : List ℕ) where
@@ -32,7 +32,7 @@ module _ (bytes : List ℕ) where
   -- what is known of a state that is accepted
   pub record IsState (next : Kept) : Type 0 where
     pub is : next ≡ readState bytes
-    pub law : lawful (readState bytes) ≡ true
+    pub law : isLawfulState (readState bytes) ≡ true
     pub size : Sized (readState bytes)
 
   pub record Accepts (r : Accepted) : Type 0 where
@@ -76,7 +76,7 @@ module _ (bytes : List ℕ) where
 
   -- ---- the rows that it counts
 
-  module _ (law : lawful (readState bytes) ≡ true) (size : Sized (readState bytes))
+  module _ (law : isLawfulState (readState bytes) ≡ true) (size : Sized (readState bytes))
       (one : isOneFile (readState bytes) ≡ true) where
     modelled : IsModelled (readState bytes)
     modelled =
@@ -89,7 +89,7 @@ module _ (bytes : List ℕ) where
     rows-are = modelled .rows
 
     pub is-counted : IsCounted (readState bytes .numbers) (readState bytes .image)
-    unfolding lawful
+    unfolding isLawfulState
     is-counted = record {
       accepted = both (accepts (readState bytes .image)) _ law .0;
       few = omega (arith, modelled .rows, modelled .room);
@@ -101,24 +101,24 @@ module _ (bytes : List ℕ) where
     abbrev beside : ℕ → Start
     beside n = record { number = n; archive = file; left = left }
 
-    pub start-large : maxBlocks < wholeBlocks file → beside (numberOf Size) ≡ startOf bytes file left
-    unfolding startOf
+    pub start-large : maxBlocks < wholeBlocks file → beside (numberOf Size) ≡ startResult bytes file left
+    unfolding startResult
     start-large h = rw (lt-ltb maxBlocks (wholeBlocks file) h)
 
     module _ (few : wholeBlocks file ≤ maxBlocks) where
       fits : ltb maxBlocks (wholeBlocks file) ≡ false
       fits = le-ltb maxBlocks (wholeBlocks file) few
 
-      pub start-refused : (acceptNumber bytes ≡ 0 → ⊥) → beside (acceptNumber bytes) ≡ startOf bytes file left
-      unfolding startOf
+      pub start-refused : (acceptNumber bytes ≡ 0 → ⊥) → beside (acceptNumber bytes) ≡ startResult bytes file left
+      unfolding startResult
       start-refused h = rw (fits, ne-eqb (acceptNumber bytes) 0 h)
 
       module _ (accepted : acceptNumber bytes ≡ 0) where
-        pub start-other : isOneFile (readState bytes) ≡ false → beside (numberOf Argument) ≡ startOf bytes file left
-        unfolding startOf
+        pub start-other : isOneFile (readState bytes) ≡ false → beside (numberOf Argument) ≡ startResult bytes file left
+        unfolding startResult
         start-other h = rw (fits, eq-eqb (acceptNumber bytes) 0 accepted, h)
 
         pub start-settled : isOneFile (readState bytes) ≡ true
-            → settledOf (stateOf (readState bytes)) file left ≡ startOf bytes file left
-        unfolding startOf
+            → settledOf (stateOf (readState bytes)) file left ≡ startResult bytes file left
+        unfolding startResult
         start-settled h = rw (fits, eq-eqb (acceptNumber bytes) 0 accepted, h)

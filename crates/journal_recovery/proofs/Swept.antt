@@ -25,7 +25,7 @@ use Rattle.journal_model.proofs.Files.{part-part}
 use Rattle.journal_model.proofs.Reading.{run-few}
 use Rattle.journal_model.proofs.Start.{blocks-count}
 use Rattle.journal_model.proofs.Untouched.{run-blocks}
-use Rattle.journal_calls.specs.Run.{Run, startRun, runBlocks, isRun, runAt, runNumbers, ScanCall, scanCall}
+use Rattle.journal_calls.specs.Run.{Run, startRun, runBlocks, isRun, runAt, runNumbers, RunCall, runCall}
 use Rattle.journal_calls.proofs.Runs.{run-is, feed-done}
 use Rattle.journal_calls.proofs.Claims.{run-counts}
 use Rattle.journal_recovery.specs.Start.{withWhole}
@@ -116,7 +116,7 @@ module _ (at : ℕ) (file : List ℕ) (inside : at ≤ wholeBlocks file) where
         (blocksIn piece)) (sym (mod-eq-of-lt low))
         ∙ ap (runBlocks (startRun maxBlocks at)) piece-blocks
 
-    scan-is : record { number = 0; numbers = runNumbers end } ≡ scanCall numbers piece
+    scan-is : record { number = 0; numbers = runNumbers end } ≡ runCall numbers piece
     scan-is =
         let whole : length piece % blockLength ≡ 0 = omega (arith, piece-long) in
         let most : 0 + length piece / blockLength ≤ maxBlocks = omega (arith, piece-long) in
@@ -126,9 +126,9 @@ module _ (at : ℕ) (file : List ℕ) (inside : at ≤ wholeBlocks file) where
       pub blocks : getD l 2 0 ≡ b
       pub count : getD l 3 0 ≡ length rows
 
-    pub scanned : (r : ScanCall) → r ≡ scanCall numbers piece → Scanned (r .numbers)
+    pub scanned : (r : RunCall) → r ≡ runCall numbers piece → Scanned (r .numbers)
     scanned r e =
-        let l : r .numbers ≡ runNumbers end = ap (λ (c : ScanCall). c .numbers) (e ∙ sym scan-is) in
+        let l : r .numbers ≡ runNumbers end = ap (λ (c : RunCall). c .numbers) (e ∙ sym scan-is) in
         let counts = run-counts maxBlocks at (blocksOn at file) in
         record {
           blocks = ap (λ (x : List ℕ). getD x 2 0) l ∙ ap (λ (x : Run). x .blocks) end-is ∙ counts .1;

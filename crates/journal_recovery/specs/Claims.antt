@@ -10,12 +10,12 @@ use Rattle.archive_model.specs.Row.{Row, isBlank}
 use Rattle.archive_model.specs.Buffer.{maxBlocks}
 use Rattle.archive_model.specs.Claims.{isFit}
 use Rattle.journal_model.specs.Disk.{State, Disk, wholeBlocks}
-use Rattle.journal_model.specs.Crash.{leftBy}
+use Rattle.journal_model.specs.Crash.{leavingAll}
 use Rattle.journal_model.specs.Claims.{paddedFiles, rowsAfter, Crashed}
 use Rattle.journal_state.specs.State.{Kept, began, nameLength, maxName, stateBytes}
 use Rattle.journal_state.specs.Lawful.{isPlaced, isPrinted}
 use Rattle.journal_state.specs.Claims.{IsKept, stateOf}
-use Rattle.journal_recovery.specs.Start.{Start, withWhole, startOf}
+use Rattle.journal_recovery.specs.Start.{Start, withWhole, startResult}
 
 -- a state of the model in a state file, with any name, position in a log and file for rows. It is proved, and not
 -- assumed, that the rows, the copy of the last block and the image agree.
@@ -51,7 +51,7 @@ abbrev pub StartRecovers : Type 0
 StartRecovers =
     (before : List Row) (log : List (List ℕ)) (d left : Disk) (again : List (List ℕ))
     → Crashed maxBlocks before log d left again
-    → let file = leftBy left again .archive in
+    → let file = leavingAll left again .archive in
     wholeBlocks file ≤ maxBlocks
     → (bytes : List ℕ) → IsFileOf (left .state) bytes
-    → (old : ℕ) → Recovered before log (left .state .lines) file (startOf bytes file old)
+    → (old : ℕ) → Recovered before log (left .state .lines) file (startResult bytes file old)

@@ -43,14 +43,14 @@ lostAt at file =
     && eqb (length (rowsIn front)) (cellsPerBlock * at)))
 
 -- the judgement is Other exactly if the model refuses the disk; else it gives the block that the model continues with
-pub record Found (s : State) (file : List ℕ) (j : Judgement) : Type 0 where
+pub record FoundAs (s : State) (file : List ℕ) (j : Judgement) : Type 0 where
   pub foreign : eqb (judgementNumber j) 3 ≡ ltb 0 (counted s) && (isLost s file || isOther s file)
   pub mends : eqb (judgementNumber j) 3 ≡ false → 0 < counted s
       → mendedBy j (s .last) (blockAt (lastUsed s) file) ≡ mended s file
 
 -- the judgement for every such state, and that the file has the counted blocks
 pub record Finds (n : ℕ) (copy file : List ℕ) (j : Judgement) : Type 0 where
-  pub found : (s : State) → Says n copy s → Found s file j
+  pub found : (s : State) → Says n copy s → FoundAs s file j
   pub none : n ≡ 0 → j ≡ Same
   pub room : eqb (judgementNumber j) 3 ≡ false → blocksFor n ≤ wholeBlocks file
 

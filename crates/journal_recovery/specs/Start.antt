@@ -47,8 +47,8 @@ abbrev pub acceptNumber : List ℕ → ℕ
 acceptNumber bytes = acceptOf (readState bytes) bytes .number
 
 -- 16 for an archive of more than 2^32 blocks; the number of `accept`; 10 for a state without such an archive; 12
-unfoldable pub startOf : List ℕ → List ℕ → ℕ → Start
-startOf bytes file left =
+unfoldable pub startResult : List ℕ → List ℕ → ℕ → Start
+startResult bytes file left =
     let refused : ℕ → Start = λ n. record { number = n; archive = file; left = left } in
     cond (ltb maxBlocks (wholeBlocks file)) (refused (numberOf Size))
     (cond (not (eqb (acceptNumber bytes) 0)) (refused (acceptNumber bytes))

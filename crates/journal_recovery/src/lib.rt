@@ -25,7 +25,7 @@ ghost use Rattle.journal_model.specs.Disk.{wholeBlocks};
 ghost use Rattle.journal_calls.specs.Claims.{mendedBy};
 ghost use Rattle.journal_state.specs.State.{kept};
 ghost use Rattle.journal_state.specs.Lawful.{imageRows};
-ghost use Rattle.journal_recovery.specs.Start.{isOneFile, startOf};
+ghost use Rattle.journal_recovery.specs.Start.{isOneFile, startResult};
 ghost use Rattle.journal_recovery.specs.Private.{IsCounted, lostAt, Finds, IsThere, Sweeps, Settles};
 
 // Starts on the bytes of a state file and of an archive: mends a torn block from the state's copy, keeps leftovers, writes their number to `left`,
@@ -34,7 +34,7 @@ ghost use Rattle.journal_recovery.specs.Private.{IsCounted, lostAt, Find
 // every case, bytes after the last whole block are unchanged.
 pub fn start(state: &[u8], file: &mut [u8], left: &mut usize) -> u8
     ensures { λ r. ⌜ record { number = r; archive = now (file .exit); left = now (left .exit) }
-        ≡ startOf (now (state .entry)) (now (file .entry)) (now (left .entry)) ⌝ }
+        ≡ startResult (now (state .entry)) (now (file .entry)) (now (left .entry)) ⌝ }
 {
     if MAX_BLOCKS < file.len() / BLOCK_LENGTH {
         return base_refusal::number(Refusal::Size);

@@ -23,7 +23,7 @@ use Rattle.base_buffers.proofs.Segments.{part-length}
 use Rattle.block_layout.specs.Block.{blockLength}
 use Rattle.collector_model.specs.Image.{imageLength}
 use Rattle.journal_state.specs.State.{Kept, kept, maxName, maxTail, oldLength, stateLength, versionOf, stateBytes, numbersIn, readState}
-use Rattle.journal_state.specs.Lawful.{lawful, isPlain, acceptsState}
+use Rattle.journal_state.specs.Lawful.{isLawfulState, isPlain, acceptsState}
 use Rattle.journal_state.specs.Calls.{writeOf, acceptOf}
 use Rattle.journal_state.specs.Private.{Sized}
 
@@ -74,11 +74,11 @@ module _ (bytes : List ℕ) where
   state-unsaid h = rw h
 
   module _ (yes : said ≡ true) where
-    pub state-unlawful : lawful (readState bytes) ≡ false → false ≡ acceptsState bytes
+    pub state-unlawful : isLawfulState (readState bytes) ≡ false → false ≡ acceptsState bytes
     unfolding acceptsState
     state-unlawful h = rw (yes, h)
 
-    pub state-written : lawful (readState bytes) ≡ true
+    pub state-written : isLawfulState (readState bytes) ≡ true
         → equal (take (length bytes) (stateBytes (readState bytes) (versionOf (length bytes)))) bytes
         ≡ acceptsState bytes
     unfolding acceptsState
@@ -101,10 +101,10 @@ module _ (bytes : List ℕ) where
       accept-done h = rw (long, h)
 
 module _ (k : Kept) (output : List ℕ) where
-  pub write-not : lawful k ≡ false → record { number = numberOf NotAccepted; output = output } ≡ writeOf k output
+  pub write-not : isLawfulState k ≡ false → record { number = numberOf NotAccepted; output = output } ≡ writeOf k output
   unfolding writeOf
   write-not h = rw h
 
-  pub write-done : lawful k ≡ true → record { number = 0; output = stateBytes k 2 } ≡ writeOf k output
+  pub write-done : isLawfulState k ≡ true → record { number = 0; output = stateBytes k 2 } ≡ writeOf k output
   unfolding writeOf
   write-done h = rw h

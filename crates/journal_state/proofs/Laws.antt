@@ -18,7 +18,7 @@ use borrow.Author.Tests.{eqb-true, eq-eqb, ne-eqb, le-leb, lt-leb}
 use Rattle.base_lists.specs.Lists.{all, pairwise}
 use Rattle.base_lists.proofs.Choice.{both}
 use Rattle.base_lists.proofs.Tests.{by-test}
-use Rattle.base_refusal.specs.Number.{numberOf}
+use Rattle.base_refusal.specs.Number.{numberOf, outcomeNumber}
 use Rattle.base_refusal.specs.declared.Refusal.{Refusal}
 use Rattle.base_refusal.specs.declared.Refusal.the-variants.{NotAccepted}
 use Rattle.base_refusal.proofs.Numbers.{refused-number}
@@ -32,14 +32,14 @@ use Rattle.collector_model.proofs.Invariant.{good-fresh, good-acceptable}
 use Rattle.collector_state.specs.declared.Collector.{Collector}
 use Rattle.collector_state.specs.Collector.{viewOf}
 use Rattle.collector_checkpoint.specs.declared.Restored.{Restored}
-use Rattle.collector_checkpoint.specs.declared.Loaded.the-variants.{Done, Refused}
-use Rattle.collector_checkpoint.specs.Checkpoint.{loadedNumber, restoreResult, Restores}
+use Rattle.base_refusal.specs.declared.Outcome.the-variants.{Done, Refused}
+use Rattle.collector_checkpoint.specs.Checkpoint.{restoreResult, Restores}
 use Rattle.archive_model.specs.Row.{blockNumber, rowCount, isSound, isBlank}
 use Rattle.archive_model.specs.Buffer.{maxRows}
 use Rattle.archive_file.specs.Archive.{soundCount}
 use Rattle.journal_calls.proofs.Judged.{sound-none, sound-some}
 use Rattle.journal_state.specs.State.{Kept, kept, nth, began, had, fileNumber, nameLength, logged, offset, tailLength, printed, maxName, maxTail}
-use Rattle.journal_state.specs.Lawful.{imageRows, isLastOf, isFile, isAttached, isPlaced, isPrinted, lawful}
+use Rattle.journal_state.specs.Lawful.{imageRows, isLastOf, isFile, isAttached, isPlaced, isPrinted, isLawfulState}
 
 -- ---- the block with the last row
 
@@ -139,22 +139,22 @@ module _ (k : Kept) where
 
   -- ---- all of them
 
-  pub law-image : accepts (k .image) ≡ false → false ≡ lawful k
-  unfolding lawful
+  pub law-image : accepts (k .image) ≡ false → false ≡ isLawfulState k
+  unfolding isLawfulState
   law-image h = rw h
 
   module _ (image : accepts (k .image) ≡ true) where
-    pub law-archive : isAttached k (imageRows (k .image)) ≡ false → false ≡ lawful k
-    unfolding lawful
+    pub law-archive : isAttached k (imageRows (k .image)) ≡ false → false ≡ isLawfulState k
+    unfolding isLawfulState
     law-archive h = rw (image, h)
 
     module _ (archive : isAttached k (imageRows (k .image)) ≡ true) where
-      pub law-log : isPlaced k ≡ false → false ≡ lawful k
-      unfolding lawful
+      pub law-log : isPlaced k ≡ false → false ≡ isLawfulState k
+      unfolding isLawfulState
       law-log h = rw (image, archive, h)
 
-      pub law-out : isPlaced k ≡ true → isPrinted k ≡ lawful k
-      unfolding lawful
+      pub law-out : isPlaced k ≡ true → isPrinted k ≡ isLawfulState k
+      unfolding isLawfulState
       law-out h = rw (image, archive, h)
 
   -- each looks at its part alone
@@ -208,7 +208,7 @@ module _ (image : List ℕ) (c : Collector) (new : viewOf c ≡ fresh) (r : Rest
   pub counts-refused : (why : Refusal) → r .answer ≡ Refused why → false ≡ accepts image
   counts-refused why e =
       by-test {X = false ≡ accepts image} (accepts image)
-      (λ t. absurd (refused-number why (ap loadedNumber (sym e) ∙ ap (λ (x : RestoreResult). x .number) (result
+      (λ t. absurd (refused-number why (ap outcomeNumber (sym e) ∙ ap (λ (x : RestoreResult). x .number) (result
       ∙ held image t))))
       (λ f. sym f)
 
@@ -216,7 +216,7 @@ module _ (image : List ℕ) (c : Collector) (new : viewOf c ≡ fresh) (r : Rest
     pub counts-restored : accepts image ≡ true
     counts-restored =
         by-test {X = accepts image ≡ true} (accepts image) (λ t. t)
-        (λ f. absurd (refused-number NotAccepted (sym (sym (ap loadedNumber e) ∙ ap (λ
+        (λ f. absurd (refused-number NotAccepted (sym (sym (ap outcomeNumber e) ∙ ap (λ
         (x : RestoreResult). x .number) (result ∙ stays image f)))))
 
     totals-are : r .next .summary .totals ≡ totalsIn image

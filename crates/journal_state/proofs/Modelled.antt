@@ -21,7 +21,7 @@ use Rattle.journal_model.specs.Disk.{State, collectorIn, counted, usedBlocks, l
 use Rattle.journal_model.specs.Claims.{IsCopied}
 use Rattle.journal_model.proofs.Kept.{unfits}
 use Rattle.journal_state.specs.State.{Kept, began, had, fileNumber, nameLength, maxName}
-use Rattle.journal_state.specs.Lawful.{imageRows, isLastOf, isFile, isAttached, isPlaced, isPrinted, lawful}
+use Rattle.journal_state.specs.Lawful.{imageRows, isLastOf, isFile, isAttached, isPlaced, isPrinted, isLawfulState}
 use Rattle.journal_state.specs.Claims.{stateOf, IsModelled, StateModelled}
 use Rattle.journal_state.proofs.Laws.{held}
 
@@ -30,17 +30,18 @@ zeros : (xs : List ℕ) → isBlank xs ≡ true → xs ≡ replicate (length xs)
 zeros [] h = refl
 zeros (x ∷ xs) h = let a = both (eqb x 0) _ h in ap₂ _∷_ (eqb-true x 0 (a .0)) (zeros xs (a .1))
 
-module _ (k : Kept) (long : length (k .last) ≡ blockLength) (law : lawful k ≡ true) (named : nameLength k ≡ 0 → ⊥)
+module _ (k : Kept) (long : length (k .last) ≡ blockLength) (law : isLawfulState k ≡ true)
+    (named : nameLength k ≡ 0 → ⊥)
     (first : began k ≡ 0) where
   abbrev rows : ℕ
   rows = had k + imageRows (k .image)
 
   accepted : accepts (k .image) ≡ true
-  unfolding lawful
+  unfolding isLawfulState
   accepted = both (accepts (k .image)) _ law .0
 
   attached : isAttached k (imageRows (k .image)) ≡ true
-  unfolding lawful
+  unfolding isLawfulState
   attached = both (isAttached k (imageRows (k .image))) _ (both (accepts (k .image)) _ law .1) .0
 
   file : isFile k (imageRows (k .image)) ≡ true

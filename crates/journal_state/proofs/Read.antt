@@ -23,7 +23,7 @@ use Rattle.block_layout.specs.Block.{bodyLength, blockLength, sealed}
 use Rattle.collector_model.specs.Image.{imageLength, accepts}
 use Rattle.archive_model.specs.Row.{isBlank}
 use Rattle.journal_state.specs.State.{Kept, kept, nth, nameLength, logged, tailLength, printed, maxName, maxTail, oldLength, stateLength, mark, archiveField, logField, outField, stateHeader, stateBytes, numbersIn, readState}
-use Rattle.journal_state.specs.Lawful.{imageRows, isAttached, isPlaced, isPrinted, lawful}
+use Rattle.journal_state.specs.Lawful.{imageRows, isAttached, isPlaced, isPrinted, isLawfulState}
 use Rattle.journal_state.specs.Claims.{IsKept}
 
 -- ---- a list of fourteen numbers is its elements
@@ -170,8 +170,8 @@ module _ (k : Kept) (z : IsKept k) (version : ℕ) where
     tails : tailLength k ≤ maxTail
     prints : printed k ≤ 1
 
-  small : lawful k ≡ true → Small
-  unfolding lawful isAttached isPlaced isPrinted
+  small : isLawfulState k ≡ true → Small
+  unfolding isLawfulState isAttached isPlaced isPrinted
   small h =
       let a = both (accepts (k .image)) _ h in
       let b = both (isAttached k (imageRows (k .image))) _ (a .1) in
@@ -193,7 +193,7 @@ module _ (k : Kept) (z : IsKept k) (version : ℕ) where
 
   -- ---- all numbers
 
-  numbers-part : lawful k ≡ true → numbersIn (stateBytes k version) ≡ k .numbers
+  numbers-part : isLawfulState k ≡ true → numbersIn (stateBytes k version) ≡ k .numbers
   numbers-part h =
       let s = small h in
       let pair : unbe (part 321 2 (stateBytes k version)) ≡ nth k 9 =
@@ -217,5 +217,5 @@ module _ (k : Kept) (z : IsKept k) (version : ℕ) where
       )
       (sym (fourteen (k .numbers) (z .count)))
 
-  pub read-back : lawful k ≡ true → readState (stateBytes k version) ≡ k
+  pub read-back : isLawfulState k ≡ true → readState (stateBytes k version) ≡ k
   read-back h = λ j. kept (numbers-part h j) (name-part j) (last-part j) (image-part j) (tail-part j)

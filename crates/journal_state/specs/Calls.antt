@@ -10,7 +10,7 @@ use Rattle.base_refusal.specs.declared.Refusal.the-variants.{NotAccepted, Size}
 use Rattle.collector_model.specs.Image.{accepts}
 use Rattle.journal_state.specs.declared.Counted.{Counted}
 use Rattle.journal_state.specs.State.{Kept, oldLength, stateLength, stateBytes, readState}
-use Rattle.journal_state.specs.Lawful.{imageRows, lawful, acceptsState}
+use Rattle.journal_state.specs.Lawful.{imageRows, isLawfulState, acceptsState}
 
 -- the number, and every byte of the output after the call
 pub record Written : Type 0 where
@@ -20,7 +20,7 @@ pub record Written : Type 0 where
 -- 11 for a state that is not lawful
 unfoldable pub writeOf : Kept → List ℕ → Written
 writeOf k output =
-    cond (lawful k) (record { number = 0; output = stateBytes k 2 }) (record {
+    cond (isLawfulState k) (record { number = 0; output = stateBytes k 2 }) (record {
       number = numberOf NotAccepted;
       output =
           output;
@@ -40,7 +40,7 @@ acceptOf k bytes =
     (record { number = numberOf NotAccepted; next = k }))
 
 -- whether an image is accepted, and then how many rows it counts; 0 if it is not accepted
-pub record Counts (image : List ℕ) (c : Counted) : Type 0 where
+pub record ImageCounts (image : List ℕ) (c : Counted) : Type 0 where
   pub accepted : c .accepted ≡ accepts image
   pub rows : c .accepted ≡ true → c .rows ≡ imageRows image
   pub none : c .accepted ≡ false → c .rows ≡ 0

@@ -12,7 +12,7 @@ use Rattle.archive_model.specs.Buffer.{maxBlocks}
 use Rattle.journal_model.specs.Disk.{State, counted, usedBlocks}
 use Rattle.journal_model.specs.Claims.{IsCopied}
 use Rattle.journal_state.specs.State.{Kept, lines, began, had, nameLength, numberCount, maxName, maxTail, versionOf, stateBytes, readState}
-use Rattle.journal_state.specs.Lawful.{imageRows, lawful, acceptsState}
+use Rattle.journal_state.specs.Lawful.{imageRows, isLawfulState, acceptsState}
 
 -- lists of the right lengths, and fourteen numbers of 64 bits
 pub record IsKept (k : Kept) : Type 0 where
@@ -26,14 +26,14 @@ pub record IsKept (k : Kept) : Type 0 where
 -- State read: the bytes that are written for a lawful state are accepted, and read back as that state.
 abbrev pub StateRead : Type 0
 StateRead =
-    (k : Kept) → IsKept k → lawful k ≡ true
+    (k : Kept) → IsKept k → isLawfulState k ≡ true
     → (readState (stateBytes k 2) ≡ k) × (acceptsState (stateBytes k 2) ≡ true)
 
 -- State written: a file that is accepted has a lawful state, and is what is written for it, in its version.
 abbrev pub StateWritten : Type 0
 StateWritten =
     (bytes : List ℕ) → acceptsState bytes ≡ true
-    → (lawful (readState bytes) ≡ true)
+    → (isLawfulState (readState bytes) ≡ true)
     × (take (length bytes) (stateBytes (readState bytes) (versionOf (length bytes))) ≡ bytes)
 
 -- the state in the model of the disk, if the archive is one file and the collector began with it
@@ -50,4 +50,5 @@ pub record IsModelled (k : Kept) : Type 0 where
 -- State modelled: this holds for a lawful state whose archive is one file with which the collector began.
 abbrev pub StateModelled : Type 0
 StateModelled =
-    (k : Kept) → length (k .last) ≡ blockLength → lawful k ≡ true → (nameLength k ≡ 0 → ⊥) → began k ≡ 0 → IsModelled k
+    (k : Kept) → length (k .last) ≡ blockLength → isLawfulState k ≡ true → (nameLength k ≡ 0 → ⊥) → began k ≡ 0
+    → IsModelled k

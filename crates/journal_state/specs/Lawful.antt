@@ -53,8 +53,8 @@ isPrinted k =
     cond (eqb (printed k) 0) (eqb (nth k 11) 0 && eqb (nth k 12) 0 && eqb (nth k 13) 0) (eqb (printed k) 1)
 
 -- a lawful state: its image is accepted, and its archive, its position in the log and its file for rows are right
-unfoldable pub lawful : Kept → Bool
-lawful k = accepts (k .image) && (isAttached k (imageRows (k .image)) && (isPlaced k && isPrinted k))
+unfoldable pub isLawfulState : Kept → Bool
+isLawfulState k = accepts (k .image) && (isAttached k (imageRows (k .image)) && (isPlaced k && isPrinted k))
 
 -- a state that version 1 can hold: without a position in the log, and without a file for rows
 unfoldable pub isPlain : Kept → Bool
@@ -68,4 +68,4 @@ unfoldable pub acceptsState : List ℕ → Bool
 acceptsState bytes =
     let k = readState bytes in
     cond (eqb (length bytes) oldLength) (isPlain k) true
-    && (lawful k && equal (take (length bytes) (stateBytes k (versionOf (length bytes)))) bytes)
+    && (isLawfulState k && equal (take (length bytes) (stateBytes k (versionOf (length bytes)))) bytes)

@@ -4,8 +4,8 @@ use crate::NAME_LENGTH;
 use crate::NUMBERS;
 use crate::TAIL_LENGTH;
 use archive_file::MAX_ROWS;
+use base_refusal::Outcome;
 use block_layout::CELLS_PER_BLOCK;
-use collector_checkpoint::Loaded;
 use collector_state::Collector;
 use journal_calls::block;
 ghost use mathlib.Core.Path.{_≡_};
@@ -13,8 +13,8 @@ ghost use mathlib.Core.List.{[], _∷_};
 ghost use Prim.Native.Nat.{min};
 ghost use lib.ListN.{length};
 ghost use Rattle.journal_state.specs.State.{kept, maxName, maxTail};
-ghost use Rattle.journal_state.specs.Lawful.{isLastOf, isFile, isAttached, isPlaced, isPrinted, lawful};
-ghost use Rattle.journal_state.specs.Calls.{Counts};
+ghost use Rattle.journal_state.specs.Lawful.{isLastOf, isFile, isAttached, isPlaced, isPrinted, isLawfulState};
+ghost use Rattle.journal_state.specs.Calls.{ImageCounts};
 ghost use Rattle.journal_state.specs.Private.{Sized};
 
 // Whether the image is accepted, and numbers and bytes are right for the archive's file, the position in a log and the file for rows, each of which
@@ -27,7 +27,7 @@ pub(crate) fn is_lawful(
     tail: &[u8],
 ) -> bool
     requires { ⌜ Sized (kept (now numbers) (now name) (now last) (now image) (now tail)) ⌝ }
-    ensures { λ r. ⌜ r ≡ lawful (kept (now (numbers .entry)) (now (name .entry)) (now (last .entry))
+    ensures { λ r. ⌜ r ≡ isLawfulState (kept (now (numbers .entry)) (now (name .entry)) (now (last .entry))
         (now (image .entry)) (now (tail .entry))) ⌝ }
 {
     let counted = rows_of(image);
@@ -45,11 +45,11 @@ pub(crate) fn is_lawful(
 
 // Whether an image is accepted, and how many rows it counts.
 pub fn rows_of(image: &[u8]) -> Counted
-    ensures { λ r. ⌜ Counts (now (image .entry)) r ⌝ }
+    ensures { λ r. ⌜ ImageCounts (now (image .entry)) r ⌝ }
 {
     let restored = collector_checkpoint::restore(Collector::fresh(), image);
     let answer = restored.answer;
-    if let Loaded::Refused(_) = answer {
+    if let Outcome::Refused(_) = answer {
         return Counted {
             accepted: false,
             rows: 0,

@@ -17,7 +17,7 @@ ghost use Rattle.base_crc8.specs.Crc8.{crcOf};
 ghost use Rattle.plan_slots.specs.Plan.{answerOf, planOf};
 ghost use Rattle.plan_rules.specs.Rules.{planBy};
 ghost use Rattle.plan_site.specs.Bytes.{siteIn};
-ghost use Rattle.mooringeye.specs.Packed.{answer, packed, packedSite, interfaceVersion};
+ghost use Rattle.mooringeye.specs.Packed.{planAnswer, packed, packedSite, interfaceVersion};
 
 // The version of the library, which is also that of the header: major x 65,536 + minor x 256 + patch.
 #[no_mangle]
@@ -91,7 +91,7 @@ fn pack_planned(planned: Planned) -> u32
 }
 
 fn pack(number: u8, slots: SlotPlan) -> u32
-    ensures { λ r. ⌜ r ≡ packed (answer number slots) ⌝ }
+    ensures { λ r. ⌜ r ≡ packed (planAnswer number slots) ⌝ }
 {
     number as u32 * 16_777_216
         + slots.first as u32 * 65_536

@@ -4,7 +4,7 @@ use collector_checkpoint::IMAGE_LENGTH;
 ghost use mathlib.Core.Path.{_≡_};
 ghost use Rattle.journal_calls.specs.Block.{judgementOf, judgementNumber};
 ghost use Rattle.journal_calls.specs.Rows.{compareCall};
-ghost use Rattle.journal_calls.specs.Run.{scanCall};
+ghost use Rattle.journal_calls.specs.Run.{runCall};
 ghost use Rattle.journal_state.specs.State.{kept};
 ghost use Rattle.journal_state.specs.Calls.{writeOf, acceptOf};
 
@@ -77,7 +77,7 @@ pub extern "C" fn mooringeye_journal_scan(
     piece: &[u8],
 ) -> u8
     ensures { λ r. ⌜ record { number = r; numbers = now (numbers .exit) }
-        ≡ scanCall (now (numbers .entry)) (now (piece .entry)) ⌝ }
+        ≡ runCall (now (numbers .entry)) (now (piece .entry)) ⌝ }
 {
     journal_calls::scan::feed(numbers, piece)
 }

@@ -92,7 +92,8 @@ pub extern "C" fn mooringeye_report_feed(
     piece: &[u8],
 ) -> u8
     ensures { λ r. ⌜ Feeds
-        (pieces.feedOf (addingAt (now (numbers .entry)) (now (lines .entry)) (now (adding .entry)) (now (tally .entry)))
+        (pieces.addPieceOf
+        (addingAt (now (numbers .entry)) (now (lines .entry)) (now (adding .entry)) (now (tally .entry)))
         (now (piece .entry)))
         (now (numbers .entry)) (now (lines .entry)) (now (adding .entry)) (now (tally .entry))
         r (now (adding .exit)) (now (tally .exit)) ⌝ }

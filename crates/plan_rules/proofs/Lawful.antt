@@ -16,10 +16,10 @@ use Rattle.base_refusal.specs.declared.Refusal.the-variants.{Argument}
 use Rattle.base_refusal.proofs.Numbers.{refused-number}
 use Rattle.plan_slots.specs.declared.SlotPlan.{SlotPlan}
 use Rattle.plan_slots.specs.declared.SlotRange.{SlotRange}
-use Rattle.plan_slots.specs.Plan.{range, none, noSlot, empty, within, isDuration, lawful, Answer, planned}
+use Rattle.plan_slots.specs.Plan.{range, none, noSlot, empty, within, isDuration, lawful, PlanAnswer, planned}
 use Rattle.plan_slots.proofs.Parts.{parts, no-third, third-after}
 use Rattle.plan_slots.proofs.Chosen.{chosen-lawful, lawful-drawn}
-use Rattle.plan_rules.specs.Rules.{rangesOf, offerOf, isKnown, isOffered, ruleOf, isAllowed, planBy, transmissionsOf, isLawfulBy}
+use Rattle.plan_rules.specs.Rules.{rangesOf, offerOf, isRuleAndLevel, isOffered, ruleOf, isAllowed, planBy, transmissionsOf, isLawfulBy}
 use Rattle.plan_rules.specs.Claims.{PlanByLawful, PlanByAsked, LawfulPicked}
 use Rattle.plan_rules.proofs.Known.{known}
 use Rattle.plan_rules.proofs.Laws.{plan-by-chosen}
@@ -41,7 +41,7 @@ rows-clear : all (λ rule. all (isClear rule) (upFrom 0 3)) (upFrom 0 3) ≡ tru
 unfolding upFrom
 rows-clear = refl
 
-clear : (rule level : ℕ) → isKnown rule level ≡ true → isClear rule level ≡ true
+clear : (rule level : ℕ) → isRuleAndLevel rule level ≡ true → isClear rule level ≡ true
 clear rule level e =
     let k = known rule level e in
     let row =
@@ -55,7 +55,7 @@ record Clear (rule level : ℕ) : Type 0 where
   top : offerOf rule level .most ≤ 3
   slots : 3 ≤ offerOf rule level .most → (empty (thirdOf rule level) ≡ false) × (thirdOf rule level .last < noSlot)
 
-clear-row : (rule level : ℕ) → isKnown rule level ≡ true → Clear rule level
+clear-row : (rule level : ℕ) → isRuleAndLevel rule level ≡ true → Clear rule level
 clear-row rule level e =
     let most = offerOf rule level .most in
     let filled = not (empty (thirdOf rule level)) in
@@ -74,7 +74,7 @@ clear-row rule level e =
 
 -- ---- the third slot says how many transmissions there are
 
-module _ (rule level n d : ℕ) (p : SlotPlan) (t : isDuration d ≡ true) (k : isKnown rule level ≡ true)
+module _ (rule level n d : ℕ) (p : SlotPlan) (t : isDuration d ≡ true) (k : isRuleAndLevel rule level ≡ true)
     (o : isOffered rule level n ≡ true) (l : lawful (ruleOf rule level n) d p ≡ true) where
   two : eqb n 2 ≡ true → transmissionsOf p ≡ n
   two e =
@@ -109,7 +109,7 @@ module _ (rule level n d : ℕ) (p : SlotPlan) (t : isDuration d ≡ true) (k : 
   unfolding isLawfulBy
   lawful-by =
       subst (λ (m : ℕ). isDuration d
-      && (isKnown rule level && (isOffered rule level m && lawful (ruleOf rule level m) d p))
+      && (isRuleAndLevel rule level && (isOffered rule level m && lawful (ruleOf rule level m) d p))
       ≡ true)
       (sym asked)
       (and-true t (and-true k (and-true o l)))
@@ -123,16 +123,16 @@ picked-allowed rule level n d draw p e =
     by-test (isAllowed rule level n d) (λ a. a)
     (λ a.
     absurd (refused-number Argument
-    (ap (λ (x : Answer). x .number) (sym (plan-by-chosen rule level n d draw .argument a) ∙ e))))
+    (ap (λ (x : PlanAnswer). x .number) (sym (plan-by-chosen rule level n d draw .argument a) ∙ e))))
 
 -- and it is lawful under the rule for so many transmissions
 picked : (rule level n d draw : ℕ) (p : SlotPlan) → planBy rule level n d draw ≡ planned p
-    → (isDuration d ≡ true) × (isKnown rule level ≡ true)
+    → (isDuration d ≡ true) × (isRuleAndLevel rule level ≡ true)
     × (isOffered rule level n ≡ true) × (lawful (ruleOf rule level n) d p ≡ true)
 picked rule level n d draw p e =
     let a = picked-allowed rule level n d draw p e in
-    let w = both (isDuration d) (isKnown rule level && isOffered rule level n) a in
-    let v = both (isKnown rule level) (isOffered rule level n) (w .1) in
+    let w = both (isDuration d) (isRuleAndLevel rule level && isOffered rule level n) a in
+    let v = both (isRuleAndLevel rule level) (isOffered rule level n) (w .1) in
     (w .0, v .0, v .1, chosen-lawful (ruleOf rule level n) d (plan-by-chosen rule level n d draw .chosen a) p e)
 
 pub plan-by-lawful : PlanByLawful
@@ -148,8 +148,8 @@ unfolding isLawfulBy planBy
 lawful-picked rule level d p e =
     let n = transmissionsOf p in
     let t =
-    both (isDuration d) (isKnown rule level && (isOffered rule level n && lawful (ruleOf rule level n) d p)) e in
-    let u = both (isKnown rule level) (isOffered rule level n && lawful (ruleOf rule level n) d p) (t .1) in
+    both (isDuration d) (isRuleAndLevel rule level && (isOffered rule level n && lawful (ruleOf rule level n) d p)) e in
+    let u = both (isRuleAndLevel rule level) (isOffered rule level n && lawful (ruleOf rule level n) d p) (t .1) in
     let v = both (isOffered rule level n) (lawful (ruleOf rule level n) d p) (u .1) in
     let w = lawful-drawn (ruleOf rule level n) d p (v .1) in
     (w .0, rw (and-true (t .0) (and-true (u .0) (v .0))) (w .1))

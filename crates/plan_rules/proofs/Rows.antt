@@ -7,7 +7,7 @@ use native.Mathlib.Omega.{arith}
 use borrow.Author.Tests.{lt-leb}
 use Rattle.plan_slots.specs.declared.SlotPlan.{SlotPlan}
 use Rattle.plan_slots.specs.Plan.{none, within, lawful}
-use Rattle.plan_rules.specs.Rules.{IsKnown, ruleOf, isLawfulOf}
+use Rattle.plan_rules.specs.Rules.{IsRuleAndLevel, ruleOf, isLawfulOf}
 
 -- no slot is in the range of no transmission
 nowhere : (n : ℕ) → within none n ≡ false
@@ -32,7 +32,7 @@ compressed-row (suc (suc zero)) d p k n = absurd (n refl)
 compressed-row (suc (suc (suc level))) d p k n = absurd (omega (arith, k))
 
 -- three transmissions are not offered above level 0 but under the compressed rule
-above-level : (rule level d : ℕ) (p : SlotPlan) → IsKnown rule level → (rule ≡ 1 → ⊥) → (level ≡ 0 → ⊥)
+above-level : (rule level d : ℕ) (p : SlotPlan) → IsRuleAndLevel rule level → (rule ≡ 1 → ⊥) → (level ≡ 0 → ⊥)
     → false ≡ isLawfulOf 3 rule level d p
 above-level zero zero d p k n m = absurd (m refl)
 above-level zero (suc zero) d p k n m = refl
@@ -45,7 +45,7 @@ above-level (suc (suc zero)) (suc (suc zero)) d p k n m = refl
 above-level (suc (suc zero)) (suc (suc (suc level))) d p k n m = absurd (omega (arith, k .level-known))
 above-level (suc (suc (suc rule))) level d p k n m = absurd (omega (arith, k .rule-known))
 
-module _ (rule level d : ℕ) (p : SlotPlan) (k : IsKnown rule level) where
+module _ (rule level d : ℕ) (p : SlotPlan) (k : IsRuleAndLevel rule level) where
   pub compressed-of-two : rule ≡ 1 → false ≡ isLawfulOf 2 rule level d p
   compressed-of-two e = rw e (compressed-level level d p (k .level-known))
 

@@ -5,12 +5,12 @@ use mathlib.Core.Bool.{true, false}
 use Prim.Native.Nat.{ℕ}
 use Rattle.base_refusal.specs.declared.Refusal.the-variants.{NoPlan, Argument}
 use Rattle.plan_slots.specs.declared.SlotPlan.{SlotPlan}
-use Rattle.plan_slots.specs.Plan.{isDuration, Answer, planned, noPlan, planOf}
+use Rattle.plan_slots.specs.Plan.{isDuration, PlanAnswer, planned, noPlan, planOf}
 use Rattle.plan_slots.specs.Claims.{Chosen}
 use Rattle.plan_rules.specs.Rules.{offerOf, ruleOf, isAllowed, planBy, transmissionsOf, isLawfulBy}
 
 -- the answer to a call: 10 if an argument is not allowed; else a lawful plan; or 9, and then no plan is lawful
-pub record ChosenBy (rule level n d : ℕ) (a : Answer) : Type 0 where
+pub record ChosenBy (rule level n d : ℕ) (a : PlanAnswer) : Type 0 where
   pub argument : isAllowed rule level n d ≡ false → a ≡ noPlan Argument
   pub chosen : isAllowed rule level n d ≡ true → Chosen (ruleOf rule level n) d a
 

@@ -9,7 +9,7 @@ use Rattle.base_refusal.specs.declared.Refusal.the-variants.{Argument}
 use Rattle.plan_slots.specs.declared.SlotRange.{SlotRange}
 use Rattle.plan_slots.specs.declared.Rule.{Rule}
 use Rattle.plan_slots.specs.declared.SlotPlan.{SlotPlan}
-use Rattle.plan_slots.specs.Plan.{range, none, noSlot, standardRanges, isLevel, isDuration, lawful, plans, Answer, noPlan, drawn}
+use Rattle.plan_slots.specs.Plan.{range, none, noSlot, standardRanges, isLevel, isDuration, lawful, plans, PlanAnswer, noPlan, drawn}
 use Rattle.plan_rules.specs.declared.Offer.{Offer}
 
 -- ---- the rules, by number: 0 standard, 1 compressed, 2 with a pause
@@ -58,11 +58,11 @@ abbrev pub offerOf : ℕ → ℕ → Offer
 offerOf rule level = getD (getD offers rule []) level (offer 0 0)
 
 -- a rule 0 to 2, and a level 0 to 2
-abbrev pub isKnown : ℕ → ℕ → Bool
-isKnown rule level = leb rule 2 && isLevel level
+abbrev pub isRuleAndLevel : ℕ → ℕ → Bool
+isRuleAndLevel rule level = leb rule 2 && isLevel level
 
 -- the same as propositions, which the lookups need
-pub record IsKnown (rule level : ℕ) : Type 0 where
+pub record IsRuleAndLevel (rule level : ℕ) : Type 0 where
   pub rule-known : rule ≤ 2
   pub level-known : level ≤ 2
 
@@ -84,10 +84,10 @@ ruleOf rule level n =
 
 -- a duration of 1 to 65,535, and a rule, a level and a number of transmissions that exist
 abbrev pub isAllowed : ℕ → ℕ → ℕ → ℕ → Bool
-isAllowed rule level n d = isDuration d && (isKnown rule level && isOffered rule level n)
+isAllowed rule level n d = isDuration d && (isRuleAndLevel rule level && isOffered rule level n)
 
 -- "refusals: 10 .., then 9"
-unfoldable pub planBy : ℕ → ℕ → ℕ → ℕ → ℕ → Answer
+unfoldable pub planBy : ℕ → ℕ → ℕ → ℕ → ℕ → PlanAnswer
 planBy rule level n d draw =
     cond (not (isAllowed rule level n d)) (noPlan Argument)
     (drawn (plans (ruleOf rule level n) d) draw)
@@ -102,4 +102,4 @@ isLawfulOf n rule level d p = isOffered rule level n && lawful (ruleOf rule leve
 
 -- the same for the number of transmissions of the plan, and a duration of 1 to 65,535
 unfoldable pub isLawfulBy : ℕ → ℕ → ℕ → SlotPlan → Bool
-isLawfulBy rule level d p = isDuration d && (isKnown rule level && isLawfulOf (transmissionsOf p) rule level d p)
+isLawfulBy rule level d p = isDuration d && (isRuleAndLevel rule level && isLawfulOf (transmissionsOf p) rule level d p)

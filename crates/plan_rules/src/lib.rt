@@ -7,7 +7,7 @@ use plan_slots::SlotPlan;
 use plan_slots::SlotRange;
 ghost use mathlib.Core.Path.{_≡_};
 ghost use Rattle.plan_slots.specs.Plan.{answerOf};
-ghost use Rattle.plan_rules.specs.Rules.{IsKnown, isKnown, isOffered, ruleOf, planBy, isLawfulOf, isLawfulBy};
+ghost use Rattle.plan_rules.specs.Rules.{IsRuleAndLevel, isRuleAndLevel, isOffered, ruleOf, planBy, isLawfulOf, isLawfulBy};
 
 // The rules, by number; PAUSED is the last.
 pub const STANDARD: u8 = 0;
@@ -62,19 +62,19 @@ const COMPRESSED_END: u32 = 50_000;
 const PAUSED_END: u32 = 40_000;
 
 // The rules that have plans, each with its row. At levels 1 and 2, the standard rule and the rule with a pause are the same.
-const RULE_0: Rule = Rule {
+const STANDARD_LEVEL_0: Rule = Rule {
     ranges: plan_slots::LEVEL_0,
     pause: 0,
     end: plan_slots::LAST_END,
 };
 
-const RULE_1: Rule = Rule {
+const STANDARD_LEVEL_1: Rule = Rule {
     ranges: plan_slots::LEVEL_1,
     pause: 0,
     end: plan_slots::LAST_END,
 };
 
-const RULE_2: Rule = Rule {
+const STANDARD_LEVEL_2: Rule = Rule {
     ranges: plan_slots::LEVEL_2,
     pause: 0,
     end: plan_slots::LAST_END,
@@ -154,17 +154,17 @@ pub fn is_lawful_by(rule: u8, level: u8, duration: u32, plan: SlotPlan) -> bool
 
 // The same for two transmissions, for a rule and a level that exist. Each rule is named, because a table would be built again at each call.
 fn is_lawful_of_two(rule: u8, level: u8, duration: u32, plan: SlotPlan) -> bool
-    requires { ⌜ IsKnown rule level ⌝ }
+    requires { ⌜ IsRuleAndLevel rule level ⌝ }
     ensures { λ r. ⌜ r ≡ isLawfulOf 2 rule level duration plan ⌝ }
 {
     if rule == COMPRESSED {
         return false;
     }
     if level == 1 {
-        return plan_slots::is_lawful(RULE_1, duration, plan);
+        return plan_slots::is_lawful(STANDARD_LEVEL_1, duration, plan);
     }
     if level == 2 {
-        return plan_slots::is_lawful(RULE_2, duration, plan);
+        return plan_slots::is_lawful(STANDARD_LEVEL_2, duration, plan);
     }
     if rule == STANDARD {
         return false;
@@ -174,7 +174,7 @@ fn is_lawful_of_two(rule: u8, level: u8, duration: u32, plan: SlotPlan) -> bool
 
 // The same for three.
 fn is_lawful_of_three(rule: u8, level: u8, duration: u32, plan: SlotPlan) -> bool
-    requires { ⌜ IsKnown rule level ⌝ }
+    requires { ⌜ IsRuleAndLevel rule level ⌝ }
     ensures { λ r. ⌜ r ≡ isLawfulOf 3 rule level duration plan ⌝ }
 {
     if rule == COMPRESSED {
@@ -187,21 +187,21 @@ fn is_lawful_of_three(rule: u8, level: u8, duration: u32, plan: SlotPlan) -> boo
         return false;
     }
     if rule == STANDARD {
-        return plan_slots::is_lawful(RULE_0, duration, plan);
+        return plan_slots::is_lawful(STANDARD_LEVEL_0, duration, plan);
     }
     plan_slots::is_lawful(PAUSED_OF_THREE, duration, plan)
 }
 
 // Whether the rule exists, and the level.
 pub fn is_known(rule: u8, level: u8) -> bool
-    ensures { λ r. ⌜ r ≡ isKnown rule level ⌝ }
+    ensures { λ r. ⌜ r ≡ isRuleAndLevel rule level ⌝ }
 {
     (rule <= PAUSED) & (level <= plan_slots::MAX_LEVEL)
 }
 
 // Whether this number of transmissions may be requested.
 fn offers(rule: u8, level: u8, transmissions: u8) -> bool
-    requires { ⌜ IsKnown rule level ⌝ }
+    requires { ⌜ IsRuleAndLevel rule level ⌝ }
     ensures { λ r. ⌜ r ≡ isOffered rule level transmissions ⌝ }
 {
     let offer = OFFERS[rule as usize][level as usize];
@@ -210,7 +210,7 @@ fn offers(rule: u8, level: u8, transmissions: u8) -> bool
 
 // The rule for a number of transmissions: with two, there is no third.
 fn rule_of(rule: u8, level: u8, transmissions: u8) -> Rule
-    requires { ⌜ IsKnown rule level ⌝ }
+    requires { ⌜ IsRuleAndLevel rule level ⌝ }
     ensures { λ r. ⌜ r ≡ ruleOf rule level transmissions ⌝ }
 {
     let row = RANGES[rule as usize][level as usize];

@@ -20,11 +20,11 @@ use Rattle.plan_slots.specs.declared.Rule.{Rule}
 use Rattle.plan_slots.specs.declared.SlotPlan.{SlotPlan}
 use Rattle.plan_slots.specs.Plan.{noSlot, startOf, endOf, rangeAt, empty, isDuration, lawful}
 use Rattle.plan_slots.proofs.Parts.{parts, no-third, third-after}
-use Rattle.plan_rules.specs.Rules.{isKnown, isOffered, ruleOf, transmissionsOf, isLawfulBy}
+use Rattle.plan_rules.specs.Rules.{isRuleAndLevel, isOffered, ruleOf, transmissionsOf, isLawfulBy}
 use Rattle.plan_site.specs.declared.Assignment.{Assignment}
-use Rattle.plan_site.specs.Site.{maxRepeaters, isInRange, hasLawfulPlan, Transmission, sentIn, sentBy, overlap, clash, Answer, answer, pairOf}
+use Rattle.plan_site.specs.Site.{maxRepeaters, isInRange, hasLawfulPlan, Transmission, sentIn, sentBy, overlap, clash, SiteAnswer, siteAnswer, pairOf}
 use Rattle.plan_site.specs.Site.{siteOf}
-use Rattle.plan_site.specs.Claims.{apart, Fits, AcceptsExactly}
+use Rattle.plan_site.specs.Claims.{apart, SiteFits, AcceptsExactly}
 
 -- ---- one repeater: a lawful plan keeps its transmissions apart
 
@@ -69,11 +69,11 @@ own-apart a e =
     let n = transmissionsOf (a .slots) in
     let t =
     both (isDuration (a .duration))
-    (isKnown (a .rule) (a .level)
+    (isRuleAndLevel (a .rule) (a .level)
     && (isOffered (a .rule) (a .level) n && lawful (ruleOf (a .rule) (a .level) n) (a .duration) (a .slots)))
     e in
     let u =
-    both (isKnown (a .rule) (a .level))
+    both (isRuleAndLevel (a .rule) (a .level))
     (isOffered (a .rule) (a .level) n && lawful (ruleOf (a .rule) (a .level) n) (a .duration) (a .slots))
     (t .1) in
     let v =
@@ -149,7 +149,7 @@ apart-peace (a ∷ l) e =
 
 -- ---- the answer
 
-pair-none : (i : ℕ) (l : List Assignment) → pairwise peace l ≡ true → pairOf i l ≡ answer 0 0 0
+pair-none : (i : ℕ) (l : List Assignment) → pairwise peace l ≡ true → pairOf i l ≡ siteAnswer 0 0 0
 pair-none i [] e = refl
 pair-none i (a ∷ l) e =
     let w = both (all (peace a) l) (pairwise peace l) e in
@@ -160,7 +160,7 @@ none-pair i [] e = refl
 none-pair i (a ∷ l) e = go (any (clash a) l) refl (λ f. none-pair (suc i) l f) e
   where
     go : (x : Bool) → any (clash a) l ≡ x → (pairOf (suc i) l .number ≡ 0 → pairwise peace l ≡ true)
-        → cond x (answer (numberOf refusal.Overlap) i (suc i + firstOf (clash a) l)) (pairOf (suc i) l) .number ≡ 0
+        → cond x (siteAnswer (numberOf refusal.Overlap) i (suc i + firstOf (clash a) l)) (pairOf (suc i) l) .number ≡ 0
         → pairwise peace (a ∷ l) ≡ true
     go true k ih f = absurd (refused-number refusal.Overlap f)
     go false k ih f = and-true (none (clash a) l k) (ih f)
@@ -169,18 +169,18 @@ module _ (count : ℕ) (repeaters : List Assignment) where
   abbrev site : List Assignment
   site = take count repeaters
 
-  fits-accepted : Fits count repeaters → siteOf count repeaters ≡ answer 0 0 0
+  fits-accepted : SiteFits count repeaters → siteOf count repeaters ≡ siteAnswer 0 0 0
   unfolding siteOf
   fits-accepted f =
       rw (le-ltb maxRepeaters count (f .in-range .few), f .in-range .known, f .lawful)
       (pair-none 0 site (apart-peace site (f .apart)))
 
   -- a choice whose number is 0 is not the refusal
-  past : (x : Bool) (a b : Answer) → (a .number ≡ 0 → ⊥) → cond x a b .number ≡ 0 → (x ≡ false) × (b .number ≡ 0)
+  past : (x : Bool) (a b : SiteAnswer) → (a .number ≡ 0 → ⊥) → cond x a b .number ≡ 0 → (x ≡ false) × (b .number ≡ 0)
   past true a b z e = absurd (z e)
   past false a b z e = (refl, e)
 
-  accepted-fits : siteOf count repeaters .number ≡ 0 → Fits count repeaters
+  accepted-fits : siteOf count repeaters .number ≡ 0 → SiteFits count repeaters
   unfolding siteOf
   accepted-fits e =
       let u = past (ltb maxRepeaters count || not (all isInRange site)) _ _ (refused-number refusal.Argument) e in

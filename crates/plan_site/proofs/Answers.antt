@@ -11,17 +11,17 @@ use Rattle.base_lists.specs.Lists.{all, any, firstOf}
 use Rattle.base_refusal.specs.Number.{numberOf}
 use Rattle.base_refusal.specs.declared.Refusal.the-variants as refusal
 use Rattle.plan_site.specs.declared.Assignment.{Assignment}
-use Rattle.plan_site.specs.Site.{maxRepeaters, isInRange, hasLawfulPlan, Answer, answer, pairOf, siteOf}
+use Rattle.plan_site.specs.Site.{maxRepeaters, isInRange, hasLawfulPlan, SiteAnswer, siteAnswer, pairOf, siteOf}
 use Rattle.base_lists.proofs.First.{any-first, not-all}
 
 module _ (count : ℕ) (repeaters : List Assignment) where
-  pub too-many : maxRepeaters < count → answer (numberOf refusal.Argument) 0 0 ≡ siteOf count repeaters
+  pub too-many : maxRepeaters < count → siteAnswer (numberOf refusal.Argument) 0 0 ≡ siteOf count repeaters
   unfolding siteOf
   too-many h = simp (lt-ltb maxRepeaters count h)
 
   module _ (few : count ≤ maxRepeaters) where
     pub out-of-range : all isInRange (take count repeaters) ≡ false
-        → answer (numberOf refusal.Argument) 0 0 ≡ siteOf count repeaters
+        → siteAnswer (numberOf refusal.Argument) 0 0 ≡ siteOf count repeaters
     unfolding siteOf
     out-of-range e = simp (e, or-true)
 
@@ -30,7 +30,7 @@ module _ (count : ℕ) (repeaters : List Assignment) where
       known-length : length (take count repeaters) ≡ count
       known-length = length-take-le count repeaters long
 
-      pub unlawful : i < count → answer (numberOf refusal.Unlawful) i 0 ≡ siteOf count repeaters
+      pub unlawful : i < count → siteAnswer (numberOf refusal.Unlawful) i 0 ≡ siteOf count repeaters
       unfolding siteOf
       unlawful h =
           let some : not (all hasLawfulPlan (take count repeaters)) ≡ true

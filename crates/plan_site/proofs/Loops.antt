@@ -12,7 +12,7 @@ use Rattle.base_lists.specs.Lists.{all, any, firstOf}
 use Rattle.base_refusal.specs.Number.{numberOf}
 use Rattle.base_refusal.specs.declared.Refusal.the-variants as refusal
 use Rattle.plan_site.specs.declared.Assignment.{Assignment}
-use Rattle.plan_site.specs.Site.{noAssignment, clash, answer, pairOf}
+use Rattle.plan_site.specs.Site.{noAssignment, clash, siteAnswer, pairOf}
 use Rattle.base_lists.proofs.First.{all-next, all-stop, all-end, first-next, first-stop, first-end, any-first}
 
 -- a test of all is what the repeaters from i on say
@@ -98,7 +98,7 @@ module _ (count : ℕ) (repeaters : List Assignment) (i : ℕ) (t : Paired count
         (ap (λ (n : ℕ). drop n (take count repeaters)) (sym (add-one i)))
         ∙ ap (λ (b : Assignment). b ∷ rest) (getD-take count repeaters i noAssignment h))
 
-    pub paired-stop : j < count → answer (numberOf refusal.Overlap) i j ≡ pairOf 0 (take count repeaters)
+    pub paired-stop : j < count → siteAnswer (numberOf refusal.Overlap) i j ≡ pairOf 0 (take count repeaters)
     paired-stop k =
         let some : any (clash one) rest ≡ true
         = any-first (clash one) rest ∙ lt-ltb (firstOf (clash one) rest) (length rest) (omega (arith, rest-length)) in
@@ -115,7 +115,7 @@ module _ (count : ℕ) (repeaters : List Assignment) (i : ℕ) (t : Paired count
           whole = t .whole ∙ turn ∙ rw no (ap (λ (n : ℕ). pairOf n rest) (sym (add-one i)));
         }
 
-  pub paired-end : count ≤ i → answer 0 0 0 ≡ pairOf 0 (take count repeaters)
+  pub paired-end : count ≤ i → siteAnswer 0 0 0 ≡ pairOf 0 (take count repeaters)
   paired-end h =
       let n : length (take count repeaters) ≤ i = rw (length-take-le count repeaters (t .enough)) h in
       let e : drop i (take count repeaters) ≡ [] = drop-of-length-le (take count repeaters) n in

@@ -16,10 +16,10 @@ use Rattle.base_lists.proofs.Tests.{none, all-getD, and-true, branch}
 use Rattle.base_refusal.specs.Number.{numberOf}
 use Rattle.base_refusal.specs.declared.Refusal.the-variants as refusal
 use Rattle.plan_slots.specs.Plan.{isDuration}
-use Rattle.plan_rules.specs.Rules.{isKnown, isOffered}
+use Rattle.plan_rules.specs.Rules.{isRuleAndLevel, isOffered}
 use Rattle.plan_rules.proofs.Lawful.{picked-allowed, plan-by-lawful}
 use Rattle.plan_site.specs.declared.Assignment.{Assignment}
-use Rattle.plan_site.specs.Site.{maxRepeaters, isInRange, hasLawfulPlan, clash, noAssignment, Answer, answer, pairOf, siteOf}
+use Rattle.plan_site.specs.Site.{maxRepeaters, isInRange, hasLawfulPlan, clash, noAssignment, SiteAnswer, siteAnswer, pairOf, siteOf}
 use Rattle.plan_site.specs.Claims.{InRange, FirstUnlawful, FirstOverlap, NamesTheFirst, DrawnAccepted}
 
 -- ---- the first pair of a list
@@ -41,11 +41,11 @@ record PairFrom (s : ℕ) (l : List Assignment) (i j : ℕ) : Type 0 where
   pair : Pair l from to
 
 overlap-at : {i j k l : ℕ}
-    → answer (numberOf refusal.Overlap) i j ≡ answer (numberOf refusal.Overlap) k l → (k ≡ i) × (l ≡ j)
-overlap-at e = (sym (ap (λ (a : Answer). a .repeater) e), sym (ap (λ (a : Answer). a .other) e))
+    → siteAnswer (numberOf refusal.Overlap) i j ≡ siteAnswer (numberOf refusal.Overlap) k l → (k ≡ i) × (l ≡ j)
+overlap-at e = (sym (ap (λ (a : SiteAnswer). a .repeater) e), sym (ap (λ (a : SiteAnswer). a .other) e))
 
-other-number : {n m : ℕ} {i j k l : ℕ} → (n ≡ m → ⊥) → answer n i j ≡ answer m k l → ⊥
-other-number h e = h (ap (λ (a : Answer). a .number) e)
+other-number : {n m : ℕ} {i j k l : ℕ} → (n ≡ m → ⊥) → siteAnswer n i j ≡ siteAnswer m k l → ⊥
+other-number h e = h (ap (λ (a : SiteAnswer). a .number) e)
 
 module _ (a : Assignment) (l : List Assignment) where
   -- the first repeater clashes with a later one
@@ -90,14 +90,15 @@ module _ (a : Assignment) (l : List Assignment) where
 
 -- what `pairOf` names is the first pair
 pair-named : (s : ℕ) (l : List Assignment) (i j : ℕ)
-    → pairOf s l ≡ answer (numberOf refusal.Overlap) i j → PairFrom s l i j
+    → pairOf s l ≡ siteAnswer (numberOf refusal.Overlap) i j → PairFrom s l i j
 pair-named s [] i j e = absurd (other-number (λ h. omega arith) e)
 pair-named s (a ∷ l) i j e = go (any (clash a) l) refl e (pair-named (suc s) l i j)
   where
     go : (x : Bool) → any (clash a) l ≡ x
-        → cond x (answer (numberOf refusal.Overlap) s (suc s + firstOf (clash a) l)) (pairOf (suc s) l)
-        ≡ answer (numberOf refusal.Overlap) i j
-        → (pairOf (suc s) l ≡ answer (numberOf refusal.Overlap) i j → PairFrom (suc s) l i j) → PairFrom s (a ∷ l) i j
+        → cond x (siteAnswer (numberOf refusal.Overlap) s (suc s + firstOf (clash a) l)) (pairOf (suc s) l)
+        ≡ siteAnswer (numberOf refusal.Overlap) i j
+        → (pairOf (suc s) l ≡ siteAnswer (numberOf refusal.Overlap) i j → PairFrom (suc s) l i j)
+        → PairFrom s (a ∷ l) i j
     go true k f ih =
         let w = overlap-at f in
         record {
@@ -119,7 +120,7 @@ pair-named s (a ∷ l) i j e = go (any (clash a) l) refl e (pair-named (suc s) l
 
 -- the first pair is what `pairOf` names
 named-pair : (s : ℕ) (l : List Assignment) (i j : ℕ) → Pair l i j
-    → pairOf s l ≡ answer (numberOf refusal.Overlap) (s + i) (s + j)
+    → pairOf s l ≡ siteAnswer (numberOf refusal.Overlap) (s + i) (s + j)
 named-pair s [] i j p = absurd (not-suc-le-zero (p .inside))
 named-pair s (a ∷ l) i zero p = absurd (not-suc-le-zero (p .order))
 named-pair s (a ∷ l) zero (suc j) p =
@@ -127,7 +128,7 @@ named-pair s (a ∷ l) zero (suc j) p =
     (λ k h. p .no-smaller-second (suc k) (suc-le-suc zero-le) (suc-le-suc h)) in
     let some : any (clash a) l ≡ true
     = any-first (clash a) l ∙ lt-ltb (firstOf (clash a) l) (length l) (omega (arith, le-of-suc-le-suc (p .inside))) in
-    rw (some, f) (ap₂ (answer (numberOf refusal.Overlap)) (omega arith) (omega arith))
+    rw (some, f) (ap₂ (siteAnswer (numberOf refusal.Overlap)) (omega arith) (omega arith))
 named-pair s (a ∷ l) (suc i) (suc j) p =
     let no : any (clash a) l ≡ false
     = none-at (clash a) noAssignment l
@@ -139,17 +140,17 @@ named-pair s (a ∷ l) (suc i) (suc j) p =
       no-smaller-first = λ k m h n o. p .no-smaller-first (suc k) (suc m) (suc-le-suc h) (suc-le-suc n) (suc-le-suc o);
       no-smaller-second = λ m h k. p .no-smaller-second (suc m) (suc-le-suc h) (suc-le-suc k);
     } in
-    rw no (named-pair (suc s) l i j behind ∙ ap₂ (answer (numberOf refusal.Overlap)) (omega arith) (omega arith))
+    rw no (named-pair (suc s) l i j behind ∙ ap₂ (siteAnswer (numberOf refusal.Overlap)) (omega arith) (omega arith))
 
 -- it never names an unlawful plan
-pair-overlap : (s : ℕ) (l : List Assignment) (i j : ℕ) → pairOf s l ≡ answer (numberOf refusal.Unlawful) i j → ⊥
+pair-overlap : (s : ℕ) (l : List Assignment) (i j : ℕ) → pairOf s l ≡ siteAnswer (numberOf refusal.Unlawful) i j → ⊥
 pair-overlap s [] i j e = other-number (λ h. omega arith) e
 pair-overlap s (a ∷ l) i j e = go (any (clash a) l) e (pair-overlap (suc s) l i j)
   where
     go : (x : Bool)
-        → cond x (answer (numberOf refusal.Overlap) s (suc s + firstOf (clash a) l)) (pairOf (suc s) l)
-        ≡ answer (numberOf refusal.Unlawful) i j
-        → (pairOf (suc s) l ≡ answer (numberOf refusal.Unlawful) i j → ⊥) → ⊥
+        → cond x (siteAnswer (numberOf refusal.Overlap) s (suc s + firstOf (clash a) l)) (pairOf (suc s) l)
+        ≡ siteAnswer (numberOf refusal.Unlawful) i j
+        → (pairOf (suc s) l ≡ siteAnswer (numberOf refusal.Unlawful) i j → ⊥) → ⊥
     go true f ih = other-number (λ h. omega arith) f
     go false f ih = ih f
 
@@ -174,14 +175,14 @@ module _ (count : ℕ) (repeaters : List Assignment) where
   in-ranges : InRange count repeaters → out-of-range ≡ false
   in-ranges r = rw (le-ltb maxRepeaters count (r .few), r .known)
 
-  is-unlawful : (i : ℕ) → siteOf count repeaters ≡ answer (numberOf refusal.Unlawful) i 0
+  is-unlawful : (i : ℕ) → siteOf count repeaters ≡ siteAnswer (numberOf refusal.Unlawful) i 0
       → FirstUnlawful count repeaters i
   unfolding siteOf
   is-unlawful i e =
       let u = cond-no out-of-range (other-number (λ h. omega arith)) e in
       let v = cond-yes (not (all hasLawfulPlan site)) (pair-overlap 0 site i 0) (u .1) in
       let some : any unlawful site ≡ true = sym (not-all hasLawfulPlan site) ∙ v .0 in
-      let first : firstOf unlawful site ≡ i = ap (λ (a : Answer). a .repeater) (v .1) in
+      let first : firstOf unlawful site ≡ i = ap (λ (a : SiteAnswer). a .repeater) (v .1) in
       record {
         in-range = ranged (u .0);
         inside = rw first at (ltb-true (firstOf unlawful site) (length site) (sym (any-first unlawful site) ∙ some));
@@ -193,7 +194,7 @@ module _ (count : ℕ) (repeaters : List Assignment) where
       }
 
   first-unlawful : (i : ℕ) → FirstUnlawful count repeaters i
-      → siteOf count repeaters ≡ answer (numberOf refusal.Unlawful) i 0
+      → siteOf count repeaters ≡ siteAnswer (numberOf refusal.Unlawful) i 0
   unfolding siteOf
   first-unlawful i f =
       let first =
@@ -203,7 +204,7 @@ module _ (count : ℕ) (repeaters : List Assignment) where
       ∙ lt-ltb (firstOf unlawful site) (length site) (rw first (f .inside)) in
       rw (in-ranges (f .in-range), some, first)
 
-  is-overlap : (i j : ℕ) → siteOf count repeaters ≡ answer (numberOf refusal.Overlap) i j
+  is-overlap : (i j : ℕ) → siteOf count repeaters ≡ siteAnswer (numberOf refusal.Overlap) i j
       → FirstOverlap count repeaters i j
   unfolding siteOf
   is-overlap i j e =
@@ -224,7 +225,7 @@ module _ (count : ℕ) (repeaters : List Assignment) where
       }
 
   first-overlap : (i j : ℕ) → FirstOverlap count repeaters i j
-      → siteOf count repeaters ≡ answer (numberOf refusal.Overlap) i j
+      → siteOf count repeaters ≡ siteAnswer (numberOf refusal.Overlap) i j
   unfolding siteOf
   first-overlap i j f =
       let pair : Pair site i j = record {
@@ -235,7 +236,7 @@ module _ (count : ℕ) (repeaters : List Assignment) where
         no-smaller-second = f .no-smaller-second;
       } in
       rw (in-ranges (f .in-range), f .lawful)
-      (named-pair 0 site i j pair ∙ ap₂ (answer (numberOf refusal.Overlap)) (omega arith) (omega arith))
+      (named-pair 0 site i j pair ∙ ap₂ (siteAnswer (numberOf refusal.Overlap)) (omega arith) (omega arith))
 
   pub names-the-first : NamesTheFirst count repeaters
   names-the-first =
@@ -243,7 +244,7 @@ module _ (count : ℕ) (repeaters : List Assignment) where
 
 -- ---- a repeater that is named has a small index
 
-pub record Small (a : Answer) : Type 0 where
+pub record Small (a : SiteAnswer) : Type 0 where
   pub repeater : a .repeater ≤ 32
   pub other : a .other ≤ 32
 
@@ -274,6 +275,7 @@ pub drawn-accepted : DrawnAccepted
 unfolding siteOf
 drawn-accepted rule level n d draw p rest e =
     let u =
-    both (isDuration d) (isKnown rule level && isOffered rule level n) (picked-allowed rule level n d draw p e) in
-    let v = both (isKnown rule level) (isOffered rule level n) (u .1) in
+    both (isDuration d) (isRuleAndLevel rule level && isOffered rule level n)
+    (picked-allowed rule level n d draw p e) in
+    let v = both (isRuleAndLevel rule level) (isOffered rule level n) (u .1) in
     rw (and-true (v .0) (u .0), plan-by-lawful rule level n d draw p e)

@@ -10,13 +10,13 @@ use Rattle.base_lists.specs.Lists.{upFrom}
 use Rattle.base_lists.proofs.UpFrom.{getD-upFrom, length-upFrom}
 use Rattle.plan_site.specs.declared.Assignment.{Assignment}
 use Rattle.plan_site.specs.Site.{noAssignment}
-use Rattle.plan_site.specs.Bytes.{Holds, assignmentOf, assignmentAt, countIn, assignmentsIn}
+use Rattle.plan_site.specs.Bytes.{HoldsRepeaters, assignmentOf, assignmentAt, repeaterCount, assignmentsIn}
 
-module _ (count : ℕ) (s : List ℕ) (h : Holds count s) where
+module _ (count : ℕ) (s : List ℕ) (h : HoldsRepeaters count s) where
   pub enough : count ≤ length (assignmentsIn s)
   enough =
-      let long : length (assignmentsIn s) ≡ countIn s
-      = length-map (upFrom 0 (countIn s)) (assignmentAt s) ∙ length-upFrom 0 (countIn s) in
+      let long : length (assignmentsIn s) ≡ repeaterCount s
+      = length-map (upFrom 0 (repeaterCount s)) (assignmentAt s) ∙ length-upFrom 0 (repeaterCount s) in
       omega (arith, long, h .few, h .whole)
 
   module _ (i : ℕ) (inside : i < count) (x : Assignment)
@@ -24,9 +24,9 @@ module _ (count : ℕ) (s : List ℕ) (h : Holds count s) where
     read : x ≡ getD (assignmentsIn s) i noAssignment
     read =
         let nine : 9 * i + 9 - 9 * i ≡ 9 = omega arith in
-        let below : i < countIn s = omega (arith, h .few, h .whole) in
+        let below : i < repeaterCount s = omega (arith, h .few, h .whole) in
         e ∙ ap (λ (n : ℕ). assignmentOf (take n (drop (9 * i) s))) nine
-        ∙ sym (getD-upFrom (assignmentAt s) 0 (countIn s) i noAssignment below ∙ ap (assignmentAt s) (zero-add i))
+        ∙ sym (getD-upFrom (assignmentAt s) 0 (repeaterCount s) i noAssignment below ∙ ap (assignmentAt s) (zero-add i))
 
     -- what is tested of the repeater that was read
     pub as-read : (p : Assignment → Bool) (v : Bool) → p x ≡ v → p (getD (assignmentsIn s) i noAssignment) ≡ v

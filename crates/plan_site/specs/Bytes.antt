@@ -10,7 +10,7 @@ use Rattle.base_refusal.specs.Number.{numberOf}
 use Rattle.base_refusal.specs.declared.Refusal.the-variants.{Argument}
 use Rattle.plan_slots.specs.Plan.{plan}
 use Rattle.plan_site.specs.declared.Assignment.{Assignment}
-use Rattle.plan_site.specs.Site.{maxRepeaters, Answer, answer, siteOf}
+use Rattle.plan_site.specs.Site.{maxRepeaters, SiteAnswer, siteAnswer, siteOf}
 
 -- the number of bytes of one repeater
 abbrev pub size : ℕ
@@ -30,18 +30,19 @@ abbrev pub assignmentAt : List ℕ → ℕ → Assignment
 assignmentAt s i = assignmentOf (take size (drop (size * i) s))
 
 -- how many whole repeaters there are, at most 32
-abbrev pub countIn : List ℕ → ℕ
-countIn s = min (length s / size) maxRepeaters
+abbrev pub repeaterCount : List ℕ → ℕ
+repeaterCount s = min (length s / size) maxRepeaters
 
 -- the repeaters in these bytes
 abbrev pub assignmentsIn : List ℕ → List Assignment
-assignmentsIn s = map (assignmentAt s) (upFrom 0 (countIn s))
+assignmentsIn s = map (assignmentAt s) (upFrom 0 (repeaterCount s))
 
 -- these bytes have at least `count` repeaters, and count is at most 32
-pub record Holds (count : ℕ) (s : List ℕ) : Type 0 where
+pub record HoldsRepeaters (count : ℕ) (s : List ℕ) : Type 0 where
   pub few : count ≤ maxRepeaters
   pub whole : size * count ≤ length s
 
 -- also 10 if the bytes are not whole repeaters
-abbrev pub siteIn : List ℕ → Answer
-siteIn s = cond (eqb (length s % size) 0) (siteOf (length s / size) (assignmentsIn s)) (answer (numberOf Argument) 0 0)
+abbrev pub siteIn : List ℕ → SiteAnswer
+siteIn s = cond (eqb (length s % size) 0) (siteOf (length s / size) (assignmentsIn s))
+    (siteAnswer (numberOf Argument) 0 0)

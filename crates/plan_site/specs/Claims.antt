@@ -11,7 +11,7 @@ use Rattle.plan_slots.specs.declared.SlotPlan.{SlotPlan}
 use Rattle.plan_slots.specs.Plan.{planned}
 use Rattle.plan_rules.specs.Rules.{planBy}
 use Rattle.plan_site.specs.declared.Assignment.{Assignment}
-use Rattle.plan_site.specs.Site.{maxRepeaters, isInRange, hasLawfulPlan, Transmission, sentBy, overlap, clash, noAssignment, answer, siteOf}
+use Rattle.plan_site.specs.Site.{maxRepeaters, isInRange, hasLawfulPlan, Transmission, sentBy, overlap, clash, noAssignment, siteAnswer, siteOf}
 
 -- two transmissions do not overlap
 abbrev pub apart : Transmission → Transmission → Bool
@@ -23,15 +23,15 @@ pub record InRange (count : ℕ) (repeaters : List Assignment) : Type 0 where
   pub known : all isInRange (take count repeaters) ≡ true
 
 -- every plan is lawful, and no two transmissions on the site overlap, also not two of one repeater
-pub record Fits (count : ℕ) (repeaters : List Assignment) : Type 0 where
+pub record SiteFits (count : ℕ) (repeaters : List Assignment) : Type 0 where
   pub in-range : InRange count repeaters
   pub lawful : all hasLawfulPlan (take count repeaters) ≡ true
   pub apart : pairwise apart (flatMap sentBy (take count repeaters)) ≡ true
 
 -- "accepts exactly if .."
 pub record AcceptsExactly (count : ℕ) (repeaters : List Assignment) : Type 0 where
-  pub accepted : Fits count repeaters → siteOf count repeaters ≡ answer 0 0 0
-  pub fits : siteOf count repeaters .number ≡ 0 → Fits count repeaters
+  pub accepted : SiteFits count repeaters → siteOf count repeaters ≡ siteAnswer 0 0 0
+  pub fits : siteOf count repeaters .number ≡ 0 → SiteFits count repeaters
 
 module _ (count : ℕ) (repeaters : List Assignment) where
   -- a repeater of the site
@@ -60,13 +60,13 @@ module _ (count : ℕ) (repeaters : List Assignment) where
 
   -- 18 names the first unlawful repeater, and 19 the first pair
   pub record NamesTheFirst : Type 0 where
-    pub unlawful : (i : ℕ) → FirstUnlawful i → siteOf count repeaters ≡ answer (numberOf refusal.Unlawful) i 0
-    pub is-unlawful : (i : ℕ) → siteOf count repeaters ≡ answer (numberOf refusal.Unlawful) i 0 → FirstUnlawful i
-    pub overlap : (i j : ℕ) → FirstOverlap i j → siteOf count repeaters ≡ answer (numberOf refusal.Overlap) i j
-    pub is-overlap : (i j : ℕ) → siteOf count repeaters ≡ answer (numberOf refusal.Overlap) i j → FirstOverlap i j
+    pub unlawful : (i : ℕ) → FirstUnlawful i → siteOf count repeaters ≡ siteAnswer (numberOf refusal.Unlawful) i 0
+    pub is-unlawful : (i : ℕ) → siteOf count repeaters ≡ siteAnswer (numberOf refusal.Unlawful) i 0 → FirstUnlawful i
+    pub overlap : (i j : ℕ) → FirstOverlap i j → siteOf count repeaters ≡ siteAnswer (numberOf refusal.Overlap) i j
+    pub is-overlap : (i j : ℕ) → siteOf count repeaters ≡ siteAnswer (numberOf refusal.Overlap) i j → FirstOverlap i j
 
 -- a site of one repeater with a plan that a draw picked is accepted
 abbrev pub DrawnAccepted : Type 0
 DrawnAccepted =
     (rule level n d draw : ℕ) (p : SlotPlan) (rest : List Assignment) → planBy rule level n d draw ≡ planned p
-    → siteOf 1 (record { rule = rule; level = level; duration = d; slots = p } ∷ rest) ≡ answer 0 0 0
+    → siteOf 1 (record { rule = rule; level = level; duration = d; slots = p } ∷ rest) ≡ siteAnswer 0 0 0

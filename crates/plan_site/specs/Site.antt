@@ -10,7 +10,7 @@ use Rattle.base_refusal.specs.Number.{numberOf}
 use Rattle.base_refusal.specs.declared.Refusal.the-variants as refusal
 use Rattle.plan_slots.specs.declared.SlotPlan.{SlotPlan}
 use Rattle.plan_slots.specs.Plan.{plan, noSlot, startOf, endOf, isDuration}
-use Rattle.plan_rules.specs.Rules.{isKnown, isLawfulBy}
+use Rattle.plan_rules.specs.Rules.{isRuleAndLevel, isLawfulBy}
 use Rattle.plan_site.specs.declared.Assignment.{Assignment}
 use Rattle.plan_site.specs.declared.Verdict.{Verdict}
 use Rattle.plan_site.specs.declared.Verdict.the-variants.{Accepted, OutOfRange, Unlawful, Overlap}
@@ -23,7 +23,7 @@ maxRepeaters = 32
 
 -- rule and level 0 to 2, duration 1 to 65,535
 abbrev pub isInRange : Assignment → Bool
-isInRange a = isKnown (a .rule) (a .level) && isDuration (a .duration)
+isInRange a = isRuleAndLevel (a .rule) (a .level) && isDuration (a .duration)
 
 -- "lawful under its named rule", for any slot number
 abbrev pub hasLawfulPlan : Assignment → Bool
@@ -65,36 +65,37 @@ clash a b = any (λ t. any (overlap t) (sentBy b)) (sentBy a)
 -- ---- the answer
 
 -- what a caller sees: the number, and the repeaters that it names, counted from 0; 0 if it names none
-pub record Answer : Type 0 where
+pub record SiteAnswer : Type 0 where
   pub number : ℕ
   pub repeater : ℕ
   pub other : ℕ
 
-abbrev pub answer : ℕ → ℕ → ℕ → Answer
-answer n i j = record { number = n; repeater = i; other = j }
+abbrev pub siteAnswer : ℕ → ℕ → ℕ → SiteAnswer
+siteAnswer n i j = record { number = n; repeater = i; other = j }
 
 -- the answer of a verdict of the code
-abbrev pub verdictOf : Verdict → Answer
-verdictOf Accepted = answer 0 0 0
-verdictOf OutOfRange = answer (numberOf refusal.Argument) 0 0
-verdictOf (Unlawful i) = answer (numberOf refusal.Unlawful) i 0
-verdictOf (Overlap i j) = answer (numberOf refusal.Overlap) i j
+abbrev pub verdictAnswer : Verdict → SiteAnswer
+verdictAnswer Accepted = siteAnswer 0 0 0
+verdictAnswer OutOfRange = siteAnswer (numberOf refusal.Argument) 0 0
+verdictAnswer (Unlawful i) = siteAnswer (numberOf refusal.Unlawful) i 0
+verdictAnswer (Overlap i j) = siteAnswer (numberOf refusal.Overlap) i j
 
 -- "the overlapping pair with the smallest first .., then the smallest second"; i is the index of the first repeater in
 -- the list
-abbrev pub pairOf : ℕ → List Assignment → Answer
-pairOf i [] = answer 0 0 0
+abbrev pub pairOf : ℕ → List Assignment → SiteAnswer
+pairOf i [] = siteAnswer 0 0 0
 pairOf i (a ∷ l) =
-    cond (any (clash a) l) (answer (numberOf refusal.Overlap) i (suc i + firstOf (clash a) l))
+    cond (any (clash a) l) (siteAnswer (numberOf refusal.Overlap) i (suc i + firstOf (clash a) l))
     (pairOf (suc i) l)
 
 -- the first `count` repeaters: "10 .. for more than 32 .. or a rule, level or duration out of range; then 18 ..; then
 -- 19"
-unfoldable pub siteOf : ℕ → List Assignment → Answer
+unfoldable pub siteOf : ℕ → List Assignment → SiteAnswer
 siteOf count repeaters =
     let l = take count repeaters in
-    cond (ltb maxRepeaters count || not (all isInRange l)) (answer (numberOf refusal.Argument) 0 0)
-    (cond (not (all hasLawfulPlan l)) (answer (numberOf refusal.Unlawful) (firstOf (λ a. not (hasLawfulPlan a)) l) 0)
+    cond (ltb maxRepeaters count || not (all isInRange l)) (siteAnswer (numberOf refusal.Argument) 0 0)
+    (cond (not (all hasLawfulPlan l))
+    (siteAnswer (numberOf refusal.Unlawful) (firstOf (λ a. not (hasLawfulPlan a)) l) 0)
     (pairOf 0 l))
 
 -- all zero: the value for a repeater after the end of a list

@@ -5,8 +5,8 @@ ghost use mathlib.Core.Bool.{not};
 ghost use Prim.Native.Nat.{_<_};
 ghost use lib.ListN.{length, take};
 ghost use Rattle.base_lists.specs.Lists.{all, any, firstOf};
-ghost use Rattle.plan_site.specs.Bytes.{Holds, assignmentOf, assignmentsIn, siteIn};
-ghost use Rattle.plan_site.specs.Site.{isInRange, hasLawfulPlan, transmission, sentBy, overlap, clash, verdictOf, pairOf};
+ghost use Rattle.plan_site.specs.Bytes.{HoldsRepeaters, assignmentOf, assignmentsIn, siteIn};
+ghost use Rattle.plan_site.specs.Site.{isInRange, hasLawfulPlan, transmission, sentBy, overlap, clash, verdictAnswer, pairOf};
 
 // The largest number of repeaters on a site.
 pub const MAX_REPEATERS: usize = 32;
@@ -36,7 +36,7 @@ pub const SIZE: usize = 9;
 // Checks a site in bytes. Refused, in this order: bytes that are not whole repeaters, more than 32 repeaters, or a rule, level or duration out of
 // range (10); the first unlawful plan (18); the first pair that overlaps (19).
 pub fn check_bytes(bytes: &[u8]) -> Verdict
-    ensures { λ r. ⌜ verdictOf r ≡ siteIn (now (bytes .entry)) ⌝ }
+    ensures { λ r. ⌜ verdictAnswer r ≡ siteIn (now (bytes .entry)) ⌝ }
 {
     if bytes.len() % SIZE != 0 {
         return Verdict::OutOfRange;
@@ -57,7 +57,7 @@ pub fn check_bytes(bytes: &[u8]) -> Verdict
 
 // Whether rule, level and duration of every repeater are in range.
 fn all_in_range(bytes: &[u8], count: usize) -> bool
-    requires { ⌜ Holds count (now bytes) ⌝ }
+    requires { ⌜ HoldsRepeaters count (now bytes) ⌝ }
     ensures { λ r. ⌜ r ≡ all isInRange (take count (assignmentsIn (now (bytes .entry)))) ⌝ }
 {
     for i in 0..count {
@@ -78,7 +78,7 @@ fn is_in_range(b: Assignment) -> bool
 
 // The first repeater whose plan is not lawful; `count` if all are lawful.
 fn first_unlawful(bytes: &[u8], count: usize) -> usize
-    requires { ⌜ Holds count (now bytes) ⌝ }
+    requires { ⌜ HoldsRepeaters count (now bytes) ⌝ }
     ensures { λ r. ⌜ r ≡ firstOf (λ b. not (hasLawfulPlan b)) (take count (assignmentsIn (now (bytes .entry)))) ⌝ }
 {
     for i in 0..count {
@@ -93,8 +93,8 @@ fn first_unlawful(bytes: &[u8], count: usize) -> usize
 
 // The first pair that overlaps, if any.
 fn first_overlap(bytes: &[u8], count: usize) -> Verdict
-    requires { ⌜ Holds count (now bytes) ⌝ }
-    ensures { λ r. ⌜ verdictOf r ≡ pairOf 0 (take count (assignmentsIn (now (bytes .entry)))) ⌝ }
+    requires { ⌜ HoldsRepeaters count (now bytes) ⌝ }
+    ensures { λ r. ⌜ verdictAnswer r ≡ pairOf 0 (take count (assignmentsIn (now (bytes .entry)))) ⌝ }
 {
     for i in 0..count {
         let b = read_one(&bytes[SIZE * i..SIZE * i + SIZE]);
@@ -150,21 +150,16 @@ fn read_one(b: &[u8]) -> Assignment
     requires { ⌜ length (now b) ≡ 9 ⌝ }
     ensures { λ r. ⌜ r ≡ assignmentOf (now (b .entry)) ⌝ }
 {
-    let high = wide(b[2]) * 16_777_216 + wide(b[3]) * 65_536;
+    let high = base_numbers::u32_of_byte(b[2]) * 16_777_216
+        + base_numbers::u32_of_byte(b[3]) * 65_536;
     Assignment {
         rule: b[0],
         level: b[1],
-        duration: high + wide(b[4]) * 256 + wide(b[5]),
+        duration: high + base_numbers::u32_of_byte(b[4]) * 256 + base_numbers::u32_of_byte(b[5]),
         slots: SlotPlan {
             first: b[6],
             second: b[7],
             third: b[8],
         },
     }
-}
-
-fn wide(b: u8) -> u32
-    ensures { λ r. ⌜ (r ≡ b) × (r < 256) ⌝ }
-{
-    b as u32
 }

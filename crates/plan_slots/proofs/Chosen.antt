@@ -13,7 +13,7 @@ use Rattle.base_refusal.specs.declared.Refusal.the-variants.{NoPlan}
 use Rattle.base_refusal.proofs.Numbers.{refused-number}
 use Rattle.plan_slots.specs.declared.Rule.{Rule}
 use Rattle.plan_slots.specs.declared.SlotPlan.{SlotPlan}
-use Rattle.plan_slots.specs.Plan.{standardRule, lawful, plan, plans, Answer, planned, drawn, planOf}
+use Rattle.plan_slots.specs.Plan.{standardRule, lawful, plan, plans, PlanAnswer, planned, drawn, planOf}
 use Rattle.plan_slots.specs.Claims.{Listed, Chosen, one, none, DrawnChosen, LawfulDrawn, PlanChosen}
 use Rattle.plan_slots.proofs.Listed.{plans-listed}
 
@@ -39,10 +39,10 @@ plan-chosen level d draw =
     record { argument = λ e. rw e; chosen = λ e. rw e (drawn-chosen (standardRule level) d draw) }
 
 -- an answer that is a plan is a lawful one
-pub chosen-lawful : (r : Rule) (d : ℕ) {a : Answer} → Chosen r d a
+pub chosen-lawful : (r : Rule) (d : ℕ) {a : PlanAnswer} → Chosen r d a
     → (p : SlotPlan) → a ≡ planned p → lawful r d p ≡ true
-chosen-lawful r d (one l) p e = subst (λ (q : SlotPlan). lawful r d q ≡ true) (ap (λ (a : Answer). a .slots) e) l
-chosen-lawful r d (none h) p e = absurd (refused-number NoPlan (ap (λ (a : Answer). a .number) e))
+chosen-lawful r d (one l) p e = subst (λ (q : SlotPlan). lawful r d q ≡ true) (ap (λ (a : PlanAnswer). a .slots) e) l
+chosen-lawful r d (none h) p e = absurd (refused-number NoPlan (ap (λ (a : PlanAnswer). a .number) e))
 
 -- every lawful plan is picked by some draw: by its index
 pub lawful-drawn : LawfulDrawn

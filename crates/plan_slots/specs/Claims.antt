@@ -9,7 +9,7 @@ use Rattle.base_lists.specs.Lists.{pairwise}
 use Rattle.base_refusal.specs.declared.Refusal.the-variants.{NoPlan, Argument}
 use Rattle.plan_slots.specs.declared.Rule.{Rule}
 use Rattle.plan_slots.specs.declared.SlotPlan.{SlotPlan}
-use Rattle.plan_slots.specs.Plan.{standardRule, lawful, plans, Answer, planned, noPlan, drawn, allowed, planOf}
+use Rattle.plan_slots.specs.Plan.{standardRule, lawful, plans, PlanAnswer, planned, noPlan, drawn, allowed, planOf}
 
 -- by first, then second, then third slot
 abbrev pub precedes : SlotPlan → SlotPlan → Bool
@@ -33,7 +33,7 @@ abbrev pub PlansListed : Type 0
 PlansListed = (r : Rule) (d : ℕ) → Listed r d (plans r d)
 
 -- the answer to a draw: a lawful plan; or 9, and then no plan is lawful
-pub data Chosen (r : Rule) (d : ℕ) : Answer → Type 0 where
+pub data Chosen (r : Rule) (d : ℕ) : PlanAnswer → Type 0 where
   one : {p : SlotPlan} → lawful r d p ≡ true → Chosen r d (planned p)
   none : ((p : SlotPlan) → lawful r d p ≡ false) → Chosen r d (noPlan NoPlan)
 
@@ -50,7 +50,7 @@ LawfulDrawn =
 -- ---- the call
 
 -- the answer to a call: 10 if an argument is not allowed; else a lawful plan; or 9, and then no plan is lawful
-pub record ChosenAt (level d : ℕ) (a : Answer) : Type 0 where
+pub record ChosenAt (level d : ℕ) (a : PlanAnswer) : Type 0 where
   pub argument : allowed level d ≡ false → a ≡ noPlan Argument
   pub chosen : allowed level d ≡ true → Chosen (standardRule level) d a
 

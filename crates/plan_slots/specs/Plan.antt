@@ -69,8 +69,8 @@ abbrev pub isOfTwo : Rule → Bool
 isOfTwo r = empty (rangeAt r 2)
 
 -- each slot is in the range of its transmission; without a third transmission, the third slot is 255
-abbrev pub isInRange : Rule → SlotPlan → Bool
-isInRange r p =
+abbrev pub areSlotsInRange : Rule → SlotPlan → Bool
+areSlotsInRange r p =
     within (rangeAt r 0) (p .first)
     && (within (rangeAt r 1) (p .second)
     && cond (isOfTwo r) (eqb (p .third) noSlot) (within (rangeAt r 2) (p .third)))
@@ -87,7 +87,7 @@ isInTime r d p = cond (isOfTwo r) (leb (endOf d (p .second)) (r .end)) (leb (end
 
 -- "each slot in its range, no start before the previous end, the last end" in time
 unfoldable pub lawful : Rule → ℕ → SlotPlan → Bool
-lawful r d p = isInRange r p && (isInOrder r d p && isInTime r d p)
+lawful r d p = areSlotsInRange r p && (isInOrder r d p && isInTime r d p)
 
 -- ── all of them, in order ──
 
@@ -112,25 +112,25 @@ plans r d = keep (lawful r d) (candidates r)
 -- ── the answer ──
 
 -- what a caller sees: the number of document 01, "Numbers a caller sees", and the three slots
-pub record Answer : Type 0 where
+pub record PlanAnswer : Type 0 where
   pub number : ℕ
   pub slots : SlotPlan
 
 -- a refusal: the slots are zero
-abbrev pub noPlan : Refusal → Answer
+abbrev pub noPlan : Refusal → PlanAnswer
 noPlan e = record { number = numberOf e; slots = plan 0 0 0 }
 
 -- a plan is the answer
-abbrev pub planned : SlotPlan → Answer
+abbrev pub planned : SlotPlan → PlanAnswer
 planned p = record { number = 0; slots = p }
 
 -- the answer of a result of the code
-abbrev pub answerOf : Planned → Answer
+abbrev pub answerOf : Planned → PlanAnswer
 answerOf (Slots p) = planned p
 answerOf (Refused e) = noPlan e
 
 -- of N plans, the one with index draw mod N, counted from 0; 9 if N = 0
-unfoldable pub drawn : List SlotPlan → ℕ → Answer
+unfoldable pub drawn : List SlotPlan → ℕ → PlanAnswer
 drawn ps draw =
     cond (eqb (length ps) 0) (noPlan NoPlan)
     (planned (getD ps (draw % length ps) (plan 0 0 0)))
@@ -148,7 +148,7 @@ abbrev pub allowed : ℕ → ℕ → Bool
 allowed level d = isLevel level && isDuration d
 
 -- the call: 10 for an argument that is not allowed, else what the draw picks
-unfoldable pub planOf : ℕ → ℕ → ℕ → Answer
+unfoldable pub planOf : ℕ → ℕ → ℕ → PlanAnswer
 planOf level d draw =
     cond (not (allowed level d)) (noPlan Argument)
     (drawn (plans (standardRule level) d) draw)

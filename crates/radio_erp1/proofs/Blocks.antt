@@ -15,15 +15,15 @@ use Rattle.base_lists.specs.Lists.{equal}
 use Rattle.base_lists.proofs.Choice.{both}
 use Rattle.base_lists.proofs.Tests.{and-true}
 use Rattle.base_lists.proofs.Equal.{equal-said}
-use Rattle.radio_erp1.specs.Private.{Agrees}
+use Rattle.radio_erp1.specs.Private.{SameBytes}
 
 -- ---- a block, byte by byte
 
-pub agrees-none : (a b : List ℕ) (from : ℕ) → Agrees a b from 0 true
+pub agrees-none : (a b : List ℕ) (from : ℕ) → SameBytes a b from 0 true
 agrees-none a b from = record { same = λ t k h. absurd (omega arith); all = λ h. refl }
 
-pub agrees-next : {a b : List ℕ} {from k : ℕ} {r : Bool} → Agrees a b from k r
-    → Agrees a b from (k + 1) (r && eqb (getD a (from + k) 0) (getD b (from + k) 0))
+pub agrees-next : {a b : List ℕ} {from k : ℕ} {r : Bool} → SameBytes a b from k r
+    → SameBytes a b from (k + 1) (r && eqb (getD a (from + k) 0) (getD b (from + k) 0))
 agrees-next {a} {b} {from} {k} {r} w =
     record {
       same = λ t.
@@ -40,13 +40,13 @@ module _ (a b : List ℕ) (n w : ℕ) (la : n ≤ length a) (lb : n ≤ length b
   at : take n a ≡ take n b → (k : ℕ) → k < n → getD a k 0 ≡ getD b k 0
   at e k h = sym (getD-take n a k 0 h) ∙ ap (λ l. getD l k 0) e ∙ getD-take n b k 0 h
 
-  pub differ : {from : ℕ} → from + w ≤ n → Agrees a b from w false → false ≡ equal (take n a) (take n b)
+  pub differ : {from : ℕ} → from + w ≤ n → SameBytes a b from w false → false ≡ equal (take n a) (take n b)
   differ {from} f d =
       sym (equal-said false (take n a) (take n b)
       ((λ t. absurd (false≢true t)), (λ e. d .all (λ k h. at e (from + k) (omega arith)))))
 
-  pub agreed : {r : Bool} → w ≤ n → n ≤ w + w → Agrees a b (n - w) w true
-      → Agrees a b 0 w r → r ≡ equal (take n a) (take n b)
+  pub agreed : {r : Bool} → w ≤ n → n ≤ w + w → SameBytes a b (n - w) w true
+      → SameBytes a b 0 w r → r ≡ equal (take n a) (take n b)
   agreed {r} few many back front =
       sym (equal-said r (take n a) (take n b) (
         (λ t. ext-getD 0 (take n a) (take n b)

@@ -16,18 +16,18 @@ use Rattle.base_refusal.proofs.Numbers.{refused-number}
 use Rattle.base_crc8.specs.Crc8.{crcOf}
 use Rattle.radio_erp1.specs.declared.Checked.{Checked}
 use Rattle.radio_erp1.specs.declared.Checked.the-variants.{Valid, Refused}
-use Rattle.radio_erp1.specs.Subtelegram.{minLength, maxLength, minAddressedLength, addressed, sumOf, lastOf, bodyOf, statusOf, hashOf, wrongHash, isAddressed, isNested, checkOf, isValid, checkedNumber, beforeStatus}
+use Rattle.radio_erp1.specs.Subtelegram.{minLength, maxLength, minAddressedLength, addressed, sumOf, lastByte, bodyOf, statusOf, hashOf, wrongHash, isAddressed, isNested, checkOf, isValid, checkedNumber, beforeStatus}
 
 -- ---- the two hashes
 
 module _ (body : List ℕ) where
-  pub hash-crc : lastOf body / 128 ≡ 1 → crcOf body ≡ hashOf body
+  pub hash-crc : lastByte body / 128 ≡ 1 → crcOf body ≡ hashOf body
   unfolding hashOf
-  hash-crc h = simp (eq-eqb (lastOf body / 128) 1 h)
+  hash-crc h = simp (eq-eqb (lastByte body / 128) 1 h)
 
-  pub hash-sum : (lastOf body / 128 ≡ 1 → ⊥) → sumOf body % 256 ≡ hashOf body
+  pub hash-sum : (lastByte body / 128 ≡ 1 → ⊥) → sumOf body % 256 ≡ hashOf body
   unfolding hashOf
-  hash-sum h = simp (ne-eqb (lastOf body / 128) 1 h)
+  hash-sum h = simp (ne-eqb (lastByte body / 128) 1 h)
 
 pub hash-none : (body : List ℕ) → length body ≡ 0 → 0 ≡ hashOf body
 unfolding hashOf
@@ -56,7 +56,7 @@ module _ (s : List ℕ) (h : 2 ≤ length s) where
 pub record Sound (s : List ℕ) : Type 0 where
   pub low : minLength ≤ length s
   pub high : length s ≤ maxLength
-  pub hashed : lastOf s ≡ hashOf (bodyOf s)
+  pub hashed : lastByte s ≡ hashOf (bodyOf s)
   pub inner : getD s 0 0 ≡ addressed → (minAddressedLength ≤ length s) × (getD s 1 0 ≡ addressed → ⊥)
 
 module _ (s : List ℕ) where
@@ -69,11 +69,11 @@ module _ (s : List ℕ) where
   check-long h = simp (le-ltb (length s) minLength (omega arith), lt-ltb _ _ h)
 
   module _ (low : minLength ≤ length s) (high : length s ≤ maxLength) where
-    pub check-hash : (lastOf s ≡ hashOf (bodyOf s) → ⊥) → numberOf (wrongHash (getD s (length s - 2) 0)) ≡ checkOf s
+    pub check-hash : (lastByte s ≡ hashOf (bodyOf s) → ⊥) → numberOf (wrongHash (getD s (length s - 2) 0)) ≡ checkOf s
     unfolding checkOf
     check-hash h = rw (← status-at s (omega arith)) (simp (le-ltb _ _ low, le-ltb _ _ high, ne-eqb _ _ h))
 
-    module _ (hashed : lastOf s ≡ hashOf (bodyOf s)) where
+    module _ (hashed : lastByte s ≡ hashOf (bodyOf s)) where
       pub check-plain : (getD s 0 0 ≡ addressed → ⊥) → 0 ≡ checkOf s
       unfolding checkOf
       check-plain h = simp (le-ltb _ _ low, le-ltb _ _ high, eq-eqb _ _ hashed, ne-eqb _ _ h)

@@ -28,14 +28,14 @@ addressed = 0xA6
 
 -- ---- the parts of a subtelegram: HASH; its body, which is all before HASH; and STATUS, the last byte of the body
 
-abbrev pub lastOf : List ℕ → ℕ
-lastOf s = getD s (length s - 1) 0
+abbrev pub lastByte : List ℕ → ℕ
+lastByte s = getD s (length s - 1) 0
 
 abbrev pub bodyOf : List ℕ → List ℕ
 bodyOf s = take (length s - 1) s
 
 abbrev pub statusOf : List ℕ → ℕ
-statusOf s = lastOf (bodyOf s)
+statusOf s = lastByte (bodyOf s)
 
 -- all bytes before STATUS
 abbrev pub beforeStatus : List ℕ → List ℕ
@@ -49,7 +49,7 @@ sumOf (b ∷ bs) = b + sumOf bs
 
 -- STATUS bit 7 = 0: the low eight bits of the sum; bit 7 = 1: the CRC
 unfoldable pub hashOf : List ℕ → ℕ
-hashOf body = cond (splitOf (lastOf body) .crc) (crcOf body) (sumOf body % 256)
+hashOf body = cond (splitOf (lastByte body) .crc) (crcOf body) (sumOf body % 256)
 
 -- a body with its HASH after it
 abbrev pub sealedOf : List ℕ → List ℕ
@@ -62,7 +62,7 @@ isLengthWrong s = ltb (length s) minLength || ltb maxLength (length s)
 
 -- HASH is right
 abbrev pub isHashed : List ℕ → Bool
-isHashed s = eqb (lastOf s) (hashOf (bodyOf s))
+isHashed s = eqb (lastByte s) (hashOf (bodyOf s))
 
 -- the first byte says that the telegram is addressed
 abbrev pub isAddressed : List ℕ → Bool

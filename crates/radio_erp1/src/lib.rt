@@ -8,7 +8,7 @@ ghost use lib.ListN.{length, take};
 ghost use Rattle.base_lists.specs.Lists.{equal};
 ghost use Rattle.radio_erp1.specs.Subtelegram.{sumOf, hashOf, wrongHash, checkOf, checkedNumber};
 ghost use Rattle.radio_erp1.specs.Same.{isSame};
-ghost use Rattle.radio_erp1.specs.Private.{Agrees};
+ghost use Rattle.radio_erp1.specs.Private.{SameBytes};
 
 // The house limits: the length of a subtelegram, and of an addressed one.
 pub const MIN_LEN: usize = 8;
@@ -131,7 +131,7 @@ fn agree(a: &[u8], b: &[u8], n: usize) -> bool
 // Whether eight bytes agree. There is no branch before all are read, so they are compared at once.
 fn agree_eight(a: &[u8], b: &[u8], from: usize) -> bool
     requires { ⌜ (from + 8 ≤ length (now a)) × (from + 8 ≤ length (now b)) ⌝ }
-    ensures { λ r. ⌜ Agrees (now (a .entry)) (now (b .entry)) from 8 r ⌝ }
+    ensures { λ r. ⌜ SameBytes (now (a .entry)) (now (b .entry)) from 8 r ⌝ }
 {
     let mut all = true;
     for k in 0..8 {
@@ -142,7 +142,7 @@ fn agree_eight(a: &[u8], b: &[u8], from: usize) -> bool
 
 fn agree_four(a: &[u8], b: &[u8], from: usize) -> bool
     requires { ⌜ (from + 4 ≤ length (now a)) × (from + 4 ≤ length (now b)) ⌝ }
-    ensures { λ r. ⌜ Agrees (now (a .entry)) (now (b .entry)) from 4 r ⌝ }
+    ensures { λ r. ⌜ SameBytes (now (a .entry)) (now (b .entry)) from 4 r ⌝ }
 {
     let mut all = true;
     for k in 0..4 {

@@ -15,10 +15,10 @@ use Rattle.radio_telegram.specs.Output.{Result, refused, written}
 use Rattle.radio_erp2_model.specs.declared.Telegram.{Telegram}
 use Rattle.radio_erp2_model.specs.Header.{isReserved}
 use Rattle.radio_erp2_model.specs.Sizes.{longSizes, overhead}
-use Rattle.radio_erp2_model.specs.Building.{isShortForm, sizesFor, telegramSize, isUnholdable, isAgainstHeader, isMisfitting, rowBytes, bodyOf, sealOf, erp2Bytes, buildOf}
+use Rattle.radio_erp2_model.specs.Building.{isShortForm, sizesFor, telegramSize, isUnholdable, isAgainstHeader, isMisfitting, bytesBySize, bodyOf, sealOf, erp2Bytes, buildOf}
 use Rattle.radio_erp2_model.specs.Claims.{Shaped}
 use Rattle.radio_erp2_model.specs.Bounds.{Buildable}
-use Rattle.radio_erp2.specs.Private.{admissionOf, sealBy, rowWritten, Laid}
+use Rattle.radio_erp2.specs.Private.{admissionOf, sealBy, rowWritten, FitsOutput}
 use Rattle.radio_erp2_model.proofs.Lookups.{originator-low}
 use Rattle.radio_erp2_model.proofs.Facts.{optional-high, Lengths, short-facts, long-facts, short-lengths, long-lengths}
 use Rattle.radio_erp2_model.proofs.Segments.{built-length}
@@ -67,10 +67,10 @@ module _ (t : Telegram) (v : Buildable t) (out : List ℕ) where
     unfolding rowWritten erp2Bytes bodyOf telegramSize
     row-built =
         let n : 1 + overhead (sizesFor t) + t .len ≡ length (erp2Bytes t) = omega (arith, built-length t lengths) in
-        ap (λ (x : List ℕ). ((overhead (sizesFor t) + t .len) ∷ (rowBytes t (sizesFor t) ++ x))
+        ap (λ (x : List ℕ). ((overhead (sizesFor t) + t .len) ∷ (bytesBySize t (sizesFor t) ++ x))
         ++ drop (1 + overhead (sizesFor t) + t .len) out)
         (by-form-seal (isShortForm t) refl)
-        ∙ ap (λ (m : ℕ). ((overhead (sizesFor t) + t .len) ∷ (rowBytes t (sizesFor t) ++ sealOf t)) ++ drop m out) n
+        ∙ ap (λ (m : ℕ). ((overhead (sizesFor t) + t .len) ∷ (bytesBySize t (sizesFor t) ++ sealOf t)) ++ drop m out) n
 
     pub build-done : 1 + telegramSize t ≤ length out → (n : ℕ) → n ≡ 1 + telegramSize t
         → (last : List ℕ) → last ≡ rowWritten t (sizesFor t) out
@@ -83,7 +83,7 @@ module _ (t : Telegram) (v : Buildable t) (out : List ℕ) where
 
 -- a telegram that can be built fits, and an output with room for it
 module _ (t : Telegram) (v : Buildable t) (n : ℕ) (room : 1 + telegramSize t ≤ n) where
-  by-form-laid : (x : Bool) → isShortForm t ≡ x → Laid t (sizesFor t) n
+  by-form-laid : (x : Bool) → isShortForm t ≡ x → FitsOutput t (sizesFor t) n
   unfolding telegramSize
   by-form-laid true f =
       let w = short-facts t v f in
@@ -110,7 +110,7 @@ module _ (t : Telegram) (v : Buildable t) (n : ℕ) (room : 1 + telegramSize t �
         crc = rw f (omega arith);
       }
 
-  pub laid-built : Laid t (sizesFor t) n
+  pub laid-built : FitsOutput t (sizesFor t) n
   laid-built = by-form-laid (isShortForm t) refl
 
 pub data-most : (t : Telegram) → Buildable t → t .len ≤ 250

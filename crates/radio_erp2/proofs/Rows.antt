@@ -15,8 +15,8 @@ use Rattle.radio_erp2_model.specs.declared.Telegram.{Telegram}
 use Rattle.radio_erp2_model.specs.declared.Sizes.{Sizes}
 use Rattle.radio_erp2_model.specs.Header.{headerByte, extensionByte}
 use Rattle.radio_erp2_model.specs.Sizes.{overhead}
-use Rattle.radio_erp2_model.specs.Building.{rowBytes}
-use Rattle.radio_erp2.specs.Private.{headBytes, idBytes, dataBytes, rowWritten}
+use Rattle.radio_erp2_model.specs.Building.{bytesBySize}
+use Rattle.radio_erp2.specs.Private.{beforeIds, idBytes, dataBytes, rowWritten}
 
 seven : (A B C D E F G : List ℕ) → (A ++ B ++ C) ++ (D ++ E) ++ (F ++ G) ≡ A ++ B ++ C ++ D ++ E ++ F ++ G
 seven A B C D E F G = simp append-assoc
@@ -39,8 +39,8 @@ module _ (t : Telegram) (z : Sizes) where
   pub head-is : (size h e v : ℕ) → h ≡ headerByte (t .header) → e ≡ extensionByte (t .extension) → v ≡ t .subtype .value
       → (([] ++ (size ∷ [])) ++ be (1 + z .header - 1) h ++ be (1 + z .header + z .extension - (1 + z .header)) e)
       ++ be (1 + z .header + z .extension + z .subtype - (1 + z .header + z .extension)) v
-      ≡ headBytes t z size
-  unfolding headBytes
+      ≡ beforeIds t z size
+  unfolding beforeIds
   head-is size h e v p q r =
       rw (
         p,
@@ -71,8 +71,8 @@ module _ (t : Telegram) (z : Sizes) where
         )
 
   -- the three parts are the length byte and the row
-  pub row-is : (size : ℕ) → headBytes t z size ++ idBytes t z ++ dataBytes t z ≡ size ∷ rowBytes t z
-  unfolding headBytes idBytes dataBytes
+  pub row-is : (size : ℕ) → beforeIds t z size ++ idBytes t z ++ dataBytes t z ≡ size ∷ bytesBySize t z
+  unfolding beforeIds idBytes dataBytes
   row-is size =
       joined size (be (z .header) (headerByte (t .header)))
       (be (z .extension) (extensionByte (t .extension))) (be (z .subtype) (t .subtype .value))
@@ -82,7 +82,7 @@ module _ (t : Telegram) (z : Sizes) where
   -- ---- what the output then holds
 
   module _ (orig xs front : List ℕ) (size end : ℕ) (e : size ≡ overhead z + t .len)
-      (f : front ≡ size ∷ rowBytes t z) (b : Begun orig front end xs) where
+      (f : front ≡ size ∷ bytesBySize t z) (b : Begun orig front end xs) where
     pub plain-is : z .crc ≤ 1 → (z .crc ≡ 1 → ⊥) → end
         ≡ 1 + z .header + z .extension + z .subtype + z .originator + z .destination + t .len + z .optional
         → xs ≡ rowWritten t z orig
@@ -90,15 +90,16 @@ module _ (t : Telegram) (z : Sizes) where
     plain-is h n k =
         let c : z .crc ≡ 0 = omega arith in
         let m : end ≡ 1 + overhead z + t .len = omega arith in
-        rw (ne-eqb (z .crc) 1 n, append-nil (rowBytes t z))
-        (b .is ∙ ap (λ (x : List ℕ). x ++ drop end orig) f ∙ ap (λ (y : ℕ). (y ∷ rowBytes t z) ++ drop end orig) e ∙ ap
-        (λ (y : ℕ). ((overhead z + t .len) ∷ rowBytes t z) ++ drop y orig) m)
+        rw (ne-eqb (z .crc) 1 n, append-nil (bytesBySize t z))
+        (b .is ∙ ap (λ (x : List ℕ). x ++ drop end orig) f ∙ ap (λ (y : ℕ). (y ∷ bytesBySize t z) ++ drop end orig) e
+        ∙ ap
+        (λ (y : ℕ). ((overhead z + t .len) ∷ bytesBySize t z) ++ drop y orig) m)
 
-    behind : part 1 (end - 1) xs ≡ rowBytes t z
+    behind : part 1 (end - 1) xs ≡ bytesBySize t z
     behind =
         let l : length front ≡ end = b .long in
-        let r : length (size ∷ rowBytes t z) ≡ end = rw f at l in
-        rw (b .is, f) (take-at (rowBytes t z) (drop end orig) (end - 1) (omega arith))
+        let r : length (size ∷ bytesBySize t z) ≡ end = rw f at l in
+        rw (b .is, f) (take-at (bytesBySize t z) (drop end orig) (end - 1) (omega arith))
 
     pub sealed-is : z .crc ≡ 1 → end < length orig → end
         ≡ 1 + z .header + z .extension + z .subtype + z .originator + z .destination + t .len + z .optional
@@ -109,6 +110,7 @@ module _ (t : Telegram) (z : Sizes) where
         let w = store b c n .is in
         rw (eq-eqb (z .crc) 1 h)
         (w ∙ ap (λ (x : List ℕ). (x ++ (c ∷ [])) ++ drop (end + 1) orig) f ∙ ap
-        (λ (y : ℕ). (size ∷ (rowBytes t z ++ (y ∷ []))) ++ drop (end + 1) orig) (g ∙ ap crcOf behind)
-        ∙ ap (λ (y : ℕ). (y ∷ (rowBytes t z ++ (crcOf (rowBytes t z) ∷ []))) ++ drop (end + 1) orig) e
-        ∙ ap (λ (y : ℕ). ((overhead z + t .len) ∷ (rowBytes t z ++ (crcOf (rowBytes t z) ∷ []))) ++ drop y orig) m)
+        (λ (y : ℕ). (size ∷ (bytesBySize t z ++ (y ∷ []))) ++ drop (end + 1) orig) (g ∙ ap crcOf behind)
+        ∙ ap (λ (y : ℕ). (y ∷ (bytesBySize t z ++ (crcOf (bytesBySize t z) ∷ []))) ++ drop (end + 1) orig) e
+        ∙ ap (λ (y : ℕ). ((overhead z + t .len) ∷ (bytesBySize t z ++ (crcOf (bytesBySize t z) ∷ []))) ++ drop y orig)
+        m)

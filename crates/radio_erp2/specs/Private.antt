@@ -12,7 +12,7 @@ use Rattle.radio_erp2_model.specs.declared.Telegram.{Telegram}
 use Rattle.radio_erp2_model.specs.declared.Sizes.{Sizes}
 use Rattle.radio_erp2_model.specs.Header.{isReserved, headerByte, extensionByte}
 use Rattle.radio_erp2_model.specs.Sizes.{overhead}
-use Rattle.radio_erp2_model.specs.Building.{isShortForm, isUnholdable, isAgainstHeader, isMisfitting, dataOf, rowBytes}
+use Rattle.radio_erp2_model.specs.Building.{isShortForm, isUnholdable, isAgainstHeader, isMisfitting, dataOf, bytesBySize}
 
 -- the refusals that do not depend on the output (10, 14, 15); 0 if none fits
 unfoldable pub admissionOf : Telegram → ℕ
@@ -23,8 +23,8 @@ admissionOf t =
     0))
 
 -- the bytes of a row in three parts: the length byte and what comes before the IDs; the IDs; the data
-unfoldable pub headBytes : Telegram → Sizes → ℕ → List ℕ
-headBytes t z size =
+unfoldable pub beforeIds : Telegram → Sizes → ℕ → List ℕ
+beforeIds t z size =
     (size ∷ []) ++ be (z .header) (headerByte (t .header)) ++ be (z .extension) (extensionByte (t .extension))
     ++ be (z .subtype) (t .subtype .value)
 
@@ -41,10 +41,10 @@ sealBy z body = cond (eqb (z .crc) 1) (crcOf body ∷ []) []
 -- the length byte, the fields by their sizes, and the CRC if there is one
 unfoldable pub rowWritten : Telegram → Sizes → List ℕ → List ℕ
 rowWritten t z output =
-    ((overhead z + t .len) ∷ (rowBytes t z ++ sealBy z (rowBytes t z))) ++ drop (1 + overhead z + t .len) output
+    ((overhead z + t .len) ∷ (bytesBySize t z ++ sealBy z (bytesBySize t z))) ++ drop (1 + overhead z + t .len) output
 
 -- fields of these sizes fit into a telegram, and into an output of n bytes
-pub record Laid (t : Telegram) (z : Sizes) (n : ℕ) : Type 0 where
+pub record FitsOutput (t : Telegram) (z : Sizes) (n : ℕ) : Type 0 where
   pub size : overhead z + t .len ≤ 255
   pub room : 1 + overhead z + t .len ≤ n
   pub payload : t .len ≤ 250

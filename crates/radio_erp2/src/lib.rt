@@ -19,13 +19,13 @@ ghost use lib.Dec.{leb};
 ghost use Rattle.base_lists.specs.Lists.{padded};
 ghost use Rattle.block_layout.specs.BigEndian.{unbe};
 ghost use Rattle.radio_erp1.specs.Subtelegram.{checkedNumber};
-ghost use Rattle.radio_erp2_model.specs.Header.{headerOf, headerByte, extensionByte};
+ghost use Rattle.radio_erp2_model.specs.Header.{headerFields, headerByte, extensionByte};
 ghost use Rattle.radio_erp2_model.specs.Sizes.{maxShort, shortOriginators, originators, shortSizes, longSizes, overhead as overheadOf};
-ghost use Rattle.radio_erp2_model.specs.Reading.{sizesIn, rowOf, fieldsOf, checkOf, shownErp2Reading, readOf, noTelegram};
+ghost use Rattle.radio_erp2_model.specs.Reading.{sizesIn, fieldsBySize, fieldsOf, checkOf, shownErp2Reading, readOf, noTelegram};
 ghost use Rattle.radio_erp2_model.specs.Building.{sizesFor, isUnholdable, differ as differing, isAgainstHeader, isMisfitting, buildOf};
 ghost use Rattle.radio_telegram.specs.Output.{resultOf};
 ghost use Rattle.radio_erp2_model.specs.Bounds.{Fitting, Placed, Buildable};
-ghost use Rattle.radio_erp2.specs.Private.{Laid, rowWritten, headBytes, idBytes, dataBytes, admissionOf};
+ghost use Rattle.radio_erp2.specs.Private.{FitsOutput, rowWritten, beforeIds, idBytes, dataBytes, admissionOf};
 
 // The longest Data_PL of a short form, and the shortest and longest of a long one.
 const MAX_SHORT: usize = 6;
@@ -94,7 +94,7 @@ fn emit(t: Telegram, out: &mut [u8]) -> Built
 
 // Writes the length byte, the fields by their sizes, one after the other, and the CRC if there is one.
 fn put_row(t: Telegram, z: Sizes, out: &mut [u8])
-    requires { ⌜ Laid t z (length (now out)) ⌝ }
+    requires { ⌜ FitsOutput t z (length (now out)) ⌝ }
     ensures { λ _. ⌜ now (out .exit) ≡ rowWritten t z (now (out .entry)) ⌝ }
 {
     let size = overhead(z) + t.len;
@@ -114,7 +114,7 @@ fn put_row(t: Telegram, z: Sizes, out: &mut [u8])
 // Writes the length byte, and what comes before the IDs.
 fn put_head(out: &mut [u8], t: Telegram, z: Sizes, size: u8)
     requires { ⌜ length (now out) ≡ 1 + z .header + z .extension + z .subtype ⌝ }
-    ensures { λ _. ⌜ now (out .exit) ≡ headBytes t z size ⌝ }
+    ensures { λ _. ⌜ now (out .exit) ≡ beforeIds t z size ⌝ }
 {
     let extension = 1 + z.header;
     let subtype = extension + z.extension;
@@ -216,7 +216,7 @@ fn is_misfitting(t: Telegram) -> bool
     }
     let size = overhead(sizes_for(t)) + t.len;
     if t.short != 0 {
-        return size != wide(t.short);
+        return size != base_numbers::usize_of_byte(t.short);
     }
     (size < MIN_LONG) | (MAX_LONG < size)
 }
@@ -229,7 +229,7 @@ fn check(s: &[u8]) -> Checked
     if n == 0 {
         return Checked::Refused(Refusal::Length);
     }
-    let l = wide(s[0]);
+    let l = base_numbers::usize_of_byte(s[0]);
     if l == 0 {
         return Checked::Refused(Refusal::Length);
     }
@@ -257,7 +257,7 @@ fn fields(s: &[u8]) -> Telegram
     requires { ⌜ Fitting (now s) ⌝ }
     ensures { λ r. ⌜ r ≡ fieldsOf (now (s .entry)) ⌝ }
 {
-    let l = wide(s[0]);
+    let l = base_numbers::usize_of_byte(s[0]);
     let z = sizes_in(s);
     let n = l - overhead(z);
     row(s, z, n, short_of(s[0]))
@@ -266,7 +266,7 @@ fn fields(s: &[u8]) -> Telegram
 // The fields by their sizes, one after the other, with n bytes of data.
 fn row(s: &[u8], z: Sizes, n: usize, short: u8) -> Telegram
     requires { ⌜ Placed (now s) z n ⌝ }
-    ensures { λ r. ⌜ r ≡ rowOf (now (s .entry)) z n short ⌝ }
+    ensures { λ r. ⌜ r ≡ fieldsBySize (now (s .entry)) z n short ⌝ }
 {
     let extension = 1 + z.header;
     let subtype = extension + z.extension;
@@ -387,13 +387,13 @@ fn sizes_for(t: Telegram) -> Sizes
     ensures { λ r. ⌜ r ≡ sizesFor t ⌝ }
 {
     if t.short != 0 {
-        return short_sizes(wide(t.short));
+        return short_sizes(base_numbers::usize_of_byte(t.short));
     }
     long_sizes(t.header, t.extension.announced)
 }
 
 fn header_of(b: u8) -> Header
-    ensures { λ r. ⌜ r ≡ headerOf b ⌝ }
+    ensures { λ r. ⌜ r ≡ headerFields b ⌝ }
 {
     Header {
         control: b / 32,
@@ -407,7 +407,7 @@ fn sizes_in(s: &[u8]) -> Sizes
     requires { ⌜ Fitting (now s) ⌝ }
     ensures { λ r. ⌜ r ≡ sizesIn (now (s .entry)) ⌝ }
 {
-    let l = wide(s[0]);
+    let l = base_numbers::usize_of_byte(s[0]);
     if l <= MAX_SHORT {
         return short_sizes(l);
     }
@@ -439,7 +439,7 @@ fn long_sizes(h: Header, announced: u8) -> Sizes
         subtype: if_set(h.kind == EXTENDED_TYPE, 1),
         originator: originator_size(h.control),
         destination: if_set(h.control == ADDRESSED, 4),
-        optional: if_set(h.extended, wide(announced)),
+        optional: if_set(h.extended, base_numbers::usize_of_byte(announced)),
         crc: 1,
     }
 }
@@ -536,10 +536,4 @@ fn optional_of(part: &[u8]) -> [u8; MAX_OPTIONAL]
     let mut optional = [0u8; MAX_OPTIONAL];
     bytes::copy(part, &mut optional);
     optional
-}
-
-fn wide(x: u8) -> usize
-    ensures { λ r. ⌜ (r ≡ x) × (r < 256) ⌝ }
-{
-    x as usize
 }

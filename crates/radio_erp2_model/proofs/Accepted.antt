@@ -13,7 +13,7 @@ use Rattle.block_layout.proofs.BigEndian.{field-lt, field-one}
 use Rattle.radio_telegram.specs.Output.{written}
 use Rattle.radio_erp2_model.specs.Header.{isReserved}
 use Rattle.radio_erp2_model.specs.Sizes.{originatorAt}
-use Rattle.radio_erp2_model.specs.Reading.{lengthByte, isShort, headerIn, sizesIn, fieldsOf}
+use Rattle.radio_erp2_model.specs.Reading.{lengthByte, hasShortLength, headerIn, sizesIn, fieldsOf}
 use Rattle.radio_erp2_model.specs.Building.{isShortForm, sizesFor, isUnholdable, differ, isAgainstHeader, isMisfitting, buildOf}
 use Rattle.radio_erp2_model.proofs.Sound.{Sound}
 use Rattle.radio_erp2_model.proofs.ReadBack.{form-short, form-long, sizes-read, length-read, bytes-read}
@@ -42,21 +42,21 @@ module _ (s : List ℕ) (v : Sound s) (b : Bytes s) where
       let low = field-lt (originatorAt (sizesIn s)) (sizesIn s .originator) s b in
       rw (sizes-read s v) (lt-leb _ _ low)
 
-  short-holds : isShort s ≡ true → isUnholdable (fieldsOf s) ≡ false
+  short-holds : hasShortLength s ≡ true → isUnholdable (fieldsOf s) ≡ false
   unfolding isUnholdable fieldsOf
   short-holds h = rw (originator-holds, form-short s v h, h) (le-ltb 6 (lengthByte s) (leb-true (lengthByte s) 6 h))
 
-  short-agrees : isShort s ≡ true → isAgainstHeader (fieldsOf s) ≡ false
+  short-agrees : hasShortLength s ≡ true → isAgainstHeader (fieldsOf s) ≡ false
   unfolding isAgainstHeader fieldsOf unbe unbeFrom
   short-agrees h = rw (form-short s v h, h) refl
 
   -- the byte of an extended header, 0 where there is none
-  second-lt : isShort s ≡ false → (x : Bool) → headerIn s .extended ≡ x → unbe (part 2 (cond x 1 0) s) < 256
+  second-lt : hasShortLength s ≡ false → (x : Bool) → headerIn s .extended ≡ x → unbe (part 2 (cond x 1 0) s) < 256
   unfolding unbe unbeFrom
   second-lt h true e = field-lt 2 1 s b
   second-lt h false e = omega arith
 
-  long-holds : isShort s ≡ false → isUnholdable (fieldsOf s) ≡ false
+  long-holds : hasShortLength s ≡ false → isUnholdable (fieldsOf s) ≡ false
   unfolding isUnholdable fieldsOf
   long-holds h =
       let low = leb-false (lengthByte s) 6 h in
@@ -65,18 +65,18 @@ module _ (s : List ℕ) (v : Sound s) (b : Bytes s) where
       (bits-hold (getD s 1 0) (unbe (part 2 (cond (headerIn s .extended) 1 0) s))
       (headerIn s .extended) (v .allowed h) e)
 
-  long-agrees : isShort s ≡ false → isAgainstHeader (fieldsOf s) ≡ false
+  long-agrees : hasShortLength s ≡ false → isAgainstHeader (fieldsOf s) ≡ false
   unfolding isAgainstHeader fieldsOf
   long-agrees h =
       rw (form-long s v h)
       (or-false (or-false (same-differ (fieldsOf s .extension .present)) (same-differ (fieldsOf s .subtype .present)))
       (same-differ (fieldsOf s .destination .present)))
 
-  named : isShort s ≡ true → fieldsOf s .short ≡ lengthByte s
+  named : hasShortLength s ≡ true → fieldsOf s .short ≡ lengthByte s
   unfolding fieldsOf
   named h = rw h refl
 
-  fits-read : (x : Bool) → isShort s ≡ x → isMisfitting (fieldsOf s) ≡ false
+  fits-read : (x : Bool) → hasShortLength s ≡ x → isMisfitting (fieldsOf s) ≡ false
   unfolding isMisfitting
   fits-read true h = rw (length-read s v, form-short s v h, named h, eq-eqb (lengthByte s) (lengthByte s) refl) refl
   fits-read false h =
@@ -89,7 +89,7 @@ module _ (s : List ℕ) (v : Sound s) (b : Bytes s) where
       )
       refl
 
-  allowed-read : (x : Bool) → isShort s ≡ x
+  allowed-read : (x : Bool) → hasShortLength s ≡ x
       → (not (isShortForm (fieldsOf s)) && isReserved (fieldsOf s .header)) ≡ false
   unfolding fieldsOf
   allowed-read true h = rw (form-short s v h) refl
@@ -97,7 +97,7 @@ module _ (s : List ℕ) (v : Sound s) (b : Bytes s) where
       let low = leb-false (lengthByte s) 6 h in
       rw (form-long s v h, h, field-one 1 s (omega (arith, v .long))) (lt-leb 4 (headerIn s .control) (v .allowed h))
 
-  holds-read : (x : Bool) → isShort s ≡ x → (isUnholdable (fieldsOf s) || isAgainstHeader (fieldsOf s)) ≡ false
+  holds-read : (x : Bool) → hasShortLength s ≡ x → (isUnholdable (fieldsOf s) || isAgainstHeader (fieldsOf s)) ≡ false
   holds-read true h = or-false (short-holds h) (short-agrees h)
   holds-read false h = or-false (long-holds h) (long-agrees h)
 
@@ -106,5 +106,11 @@ module _ (s : List ℕ) (v : Sound s) (b : Bytes s) where
   unfolding buildOf
   build-fields out h =
       let room = le-ltb (length out) (1 + lengthByte s) (omega (arith, v .long)) in
-      rw (holds-read (isShort s) refl, allowed-read (isShort s) refl, fits-read (isShort s) refl, length-read s v, room)
+      rw (
+        holds-read (hasShortLength s) refl,
+        allowed-read (hasShortLength s) refl,
+        fits-read (hasShortLength s) refl,
+        length-read s v,
+        room,
+      )
       (ap (λ (xs : List ℕ). written xs out) (bytes-read s v b))

@@ -21,9 +21,9 @@ use Rattle.radio_erp2_model.specs.declared.Extension.{Extension}
 use Rattle.radio_erp2_model.specs.declared.Subtype.{Subtype}
 use Rattle.radio_erp2_model.specs.declared.Destination.{Destination}
 use Rattle.radio_erp2_model.specs.declared.Telegram.{Telegram}
-use Rattle.radio_erp2_model.specs.Header.{headerOf, headerByte, isReserved, isTypeExtended, isAddressed, extensionOf, extensionByte}
+use Rattle.radio_erp2_model.specs.Header.{headerFields, headerByte, isReserved, isTypeExtended, isAddressed, extensionOf, extensionByte}
 use Rattle.radio_erp2_model.specs.Sizes.{shortSizes, longSizes, overhead, extensionAt}
-use Rattle.radio_erp2_model.specs.Reading.{maxData, maxOptional, lengthByte, isShort, headerIn, sizesIn, fieldsOf, checkOf, noHeader, noExtension, noSubtype, noDestination}
+use Rattle.radio_erp2_model.specs.Reading.{maxData, maxOptional, lengthByte, hasShortLength, headerIn, sizesIn, fieldsOf, checkOf, noHeader, noExtension, noSubtype, noDestination}
 use Rattle.radio_erp2_model.specs.Building.{isShortForm, sizesFor, telegramSize, dataOf, optionalOf, bodyOf, sealOf, erp2Bytes}
 use Rattle.radio_erp2_model.specs.Bounds.{Buildable}
 use Rattle.radio_erp2_model.specs.Claims.{Shaped, normalOf}
@@ -56,7 +56,7 @@ unfolding telegramSize
 rest-built t = omega arith
 
 module _ (t : Telegram) (shape : Shaped t) (f : isShortForm t ≡ true) (v : Short t) (l : Lengths t) where
-  short-is : isShort (erp2Bytes t) ≡ true
+  short-is : hasShortLength (erp2Bytes t) ≡ true
   short-is = rw (length-built t) (le-leb (telegramSize t) 6 (omega (arith, v .size, v .most)))
 
   short-sizes : sizesIn (erp2Bytes t) ≡ sizesFor t
@@ -107,7 +107,7 @@ module _ (t : Telegram) (shape : Shaped t) (f : isShortForm t ≡ true) (v : Sho
       )
 
 module _ (t : Telegram) (shape : Shaped t) (f : isShortForm t ≡ false) (v : Long t) (l : Lengths t) where
-  long-is : isShort (erp2Bytes t) ≡ false
+  long-is : hasShortLength (erp2Bytes t) ≡ false
   long-is = rw (length-built t) (lt-leb (telegramSize t) 6 (omega (arith, v .low)))
 
   header-read : unbe (headerField t) ≡ headerByte (t .header)
@@ -238,8 +238,8 @@ module _ (t : Telegram) (shape : Shaped t) (f : isShortForm t ≡ false) (v : Lo
       (readSubtype h)
       (readDestination h)
 
-  header-built : headerOf (unbe (headerField t)) ≡ t .header
-  header-built = ap headerOf header-read ∙ header-forth (t .header) (omega (arith, v .control)) (v .kind)
+  header-built : headerFields (unbe (headerField t)) ≡ t .header
+  header-built = ap headerFields header-read ∙ header-forth (t .header) (omega (arith, v .control)) (v .kind)
 
   long-fields : fieldsOf (erp2Bytes t) ≡ normalOf t
   unfolding fieldsOf

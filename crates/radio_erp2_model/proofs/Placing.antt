@@ -9,7 +9,7 @@ use lib.ListN.{getD}
 use Rattle.radio_erp2_model.specs.declared.Header.{Header}
 use Rattle.radio_erp2_model.specs.Header.{isTypeExtended, isAddressed}
 use Rattle.radio_erp2_model.specs.Sizes.{shortSizes, longSizes, overhead}
-use Rattle.radio_erp2_model.specs.Reading.{lengthByte, isShort, headerIn, sizesIn}
+use Rattle.radio_erp2_model.specs.Reading.{lengthByte, hasShortLength, headerIn, sizesIn}
 use Rattle.radio_erp2_model.specs.Bounds.{Fitting, Placed}
 use Rattle.radio_erp2_model.proofs.Lookups.{short-high, originator-low, originator-high, flag-le}
 
@@ -27,7 +27,7 @@ pub low-bits : (n : ℕ) → n % 16 < 256
 low-bits n = omega arith
 
 module _ (s : List ℕ) (v : Fitting s) (b : lengthByte s < 256) where
-  short-placed : isShort s ≡ true → Placed s (sizesIn s) (lengthByte s - overhead (sizesIn s))
+  short-placed : hasShortLength s ≡ true → Placed s (sizesIn s) (lengthByte s - overhead (sizesIn s))
   short-placed h =
       let l = leb-true (lengthByte s) 6 h in
       let o = short-high (lengthByte s) in
@@ -43,7 +43,7 @@ module _ (s : List ℕ) (v : Fitting s) (b : lengthByte s < 256) where
         payload = omega arith;
       })
 
-  long-placed : isShort s ≡ false → Placed s (sizesIn s) (lengthByte s - overhead (sizesIn s))
+  long-placed : hasShortLength s ≡ false → Placed s (sizesIn s) (lengthByte s - overhead (sizesIn s))
   long-placed h =
       let x = headerIn s in
       let f : overhead (longSizes x (getD s 2 0 % 16)) ≤ lengthByte s = rw h at (v .fits) in
@@ -64,9 +64,9 @@ module _ (s : List ℕ) (v : Fitting s) (b : lengthByte s < 256) where
         payload = omega (arith, q);
       })
 
-  by-form : (x : Bool) → isShort s ≡ x → Placed s (sizesIn s) (lengthByte s - overhead (sizesIn s))
+  by-form : (x : Bool) → hasShortLength s ≡ x → Placed s (sizesIn s) (lengthByte s - overhead (sizesIn s))
   by-form true h = short-placed h
   by-form false h = long-placed h
 
   pub placed : Placed s (sizesIn s) (lengthByte s - overhead (sizesIn s))
-  placed = by-form (isShort s) refl
+  placed = by-form (hasShortLength s) refl

@@ -15,7 +15,7 @@ use Rattle.base_buffers.proofs.Segments.{part-length, part-join}
 use Rattle.block_layout.proofs.BigEndian.{field-back, field-one}
 use Rattle.radio_erp2_model.specs.declared.Sizes.{Sizes}
 use Rattle.radio_erp2_model.specs.Sizes.{longSizes, overhead, extensionAt, subtypeAt, originatorAt, destinationAt, payloadAt}
-use Rattle.radio_erp2_model.specs.Reading.{maxData, maxOptional, lengthByte, isShort, headerIn, sizesIn, fieldsOf}
+use Rattle.radio_erp2_model.specs.Reading.{maxData, maxOptional, lengthByte, hasShortLength, headerIn, sizesIn, fieldsOf}
 use Rattle.radio_erp2_model.specs.Building.{isShortForm, sizesFor, telegramSize, bodyOf, erp2Bytes}
 use Rattle.radio_erp2_model.proofs.Lookups.{short-fits}
 use Rattle.radio_erp2_model.proofs.Bits.{header-back, extension-back}
@@ -56,11 +56,11 @@ module _ (s : List ℕ) (b : Bytes s) (z : Sizes) (n : ℕ) (long : length s ≡
 
 -- the sizes of what is read are those of the list
 module _ (s : List ℕ) (v : Sound s) where
-  sizes-short : isShort s ≡ true → sizesFor (fieldsOf s) ≡ sizesIn s
+  sizes-short : hasShortLength s ≡ true → sizesFor (fieldsOf s) ≡ sizesIn s
   unfolding fieldsOf
   sizes-short h = rw (h, ne-eqb (lengthByte s) 0 (λ e. omega (arith, v .some))) refl
 
-  second : isShort s ≡ false → (x : Bool) → headerIn s .extended ≡ x
+  second : hasShortLength s ≡ false → (x : Bool) → headerIn s .extended ≡ x
       → cond x (unbe (part 2 (cond x 1 0) s) % 16) 0 ≡ cond x (getD s 2 0 % 16) 0
   second h true e = rw (field-one 2 s (omega (arith, v .long, leb-false (lengthByte s) 6 h))) refl
   second h false e = refl
@@ -79,28 +79,28 @@ module _ (s : List ℕ) (v : Sound s) where
         crc = 1;
       }
 
-  sizes-long : isShort s ≡ false → sizesFor (fieldsOf s) ≡ sizesIn s
+  sizes-long : hasShortLength s ≡ false → sizesFor (fieldsOf s) ≡ sizesIn s
   unfolding fieldsOf
   sizes-long h =
       rw (h, field-one 1 s (omega (arith, v .long, leb-false (lengthByte s) 6 h)))
       (ap withOptional (second h (headerIn s .extended) refl))
 
-  by-form-sizes : (x : Bool) → isShort s ≡ x → sizesFor (fieldsOf s) ≡ sizesIn s
+  by-form-sizes : (x : Bool) → hasShortLength s ≡ x → sizesFor (fieldsOf s) ≡ sizesIn s
   by-form-sizes true h = sizes-short h
   by-form-sizes false h = sizes-long h
 
   pub sizes-read : sizesFor (fieldsOf s) ≡ sizesIn s
-  sizes-read = by-form-sizes (isShort s) refl
+  sizes-read = by-form-sizes (hasShortLength s) refl
 
   pub length-read : telegramSize (fieldsOf s) ≡ lengthByte s
   unfolding fieldsOf telegramSize
   length-read = rw sizes-read (omega (arith, v .fits))
 
-  pub form-short : isShort s ≡ true → isShortForm (fieldsOf s) ≡ true
+  pub form-short : hasShortLength s ≡ true → isShortForm (fieldsOf s) ≡ true
   unfolding fieldsOf
   form-short h = rw (h, ne-eqb (lengthByte s) 0 (λ e. omega (arith, v .some))) refl
 
-  pub form-long : isShort s ≡ false → isShortForm (fieldsOf s) ≡ false
+  pub form-long : hasShortLength s ≡ false → isShortForm (fieldsOf s) ≡ false
   unfolding fieldsOf
   form-long h = rw h refl
 
@@ -134,7 +134,7 @@ module _ (s : List ℕ) (v : Sound s) where
         let behind = take-all (lengthByte s) (drop 1 s) (rw length-drop (omega (arith, v .long))) in
         sym (drop-cons s 0 0 (omega (arith, v .long)) ∙ ap (λ (l : List ℕ). lengthByte s ∷ l) (sym behind))
 
-    crc-short : isShort s ≡ true → erp2Bytes (fieldsOf s) ≡ s
+    crc-short : hasShortLength s ≡ true → erp2Bytes (fieldsOf s) ≡ s
     unfolding erp2Bytes
     crc-short h =
         let n : inFront ≡ lengthByte s
@@ -142,7 +142,7 @@ module _ (s : List ℕ) (v : Sound s) where
         rw (length-read, body-read, n, form-short h)
         (ap (λ (l : List ℕ). lengthByte s ∷ l) (append-nil (part 1 (lengthByte s) s)) ∙ whole)
 
-    crc-long : isShort s ≡ false → erp2Bytes (fieldsOf s) ≡ s
+    crc-long : hasShortLength s ≡ false → erp2Bytes (fieldsOf s) ≡ s
     unfolding erp2Bytes
     crc-long h =
         let low = leb-false (lengthByte s) 6 h in
@@ -162,10 +162,10 @@ module _ (s : List ℕ) (v : Sound s) where
         )
         whole
 
-    by-form-bytes : (x : Bool) → isShort s ≡ x → erp2Bytes (fieldsOf s) ≡ s
+    by-form-bytes : (x : Bool) → hasShortLength s ≡ x → erp2Bytes (fieldsOf s) ≡ s
     by-form-bytes true h = crc-short h
     by-form-bytes false h = crc-long h
 
     -- what is read builds the same bytes
     pub bytes-read : erp2Bytes (fieldsOf s) ≡ s
-    bytes-read = by-form-bytes (isShort s) refl
+    bytes-read = by-form-bytes (hasShortLength s) refl

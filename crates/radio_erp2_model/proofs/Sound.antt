@@ -15,15 +15,15 @@ use Rattle.base_crc8.specs.Crc8.{crcOf}
 use Rattle.base_buffers.specs.Buffer.{part}
 use Rattle.radio_erp2_model.specs.Header.{isReserved}
 use Rattle.radio_erp2_model.specs.Sizes.{overhead}
-use Rattle.radio_erp2_model.specs.Reading.{lengthByte, isLengthWrong, isShort, isIntact, headerIn, sizesIn, isOverrun, checkOf}
+use Rattle.radio_erp2_model.specs.Reading.{lengthByte, isLengthWrong, hasShortLength, isIntact, headerIn, sizesIn, isOverrun, checkOf}
 use Rattle.radio_erp2_model.proofs.Lookups.{short-fits}
 
 pub record Sound (s : List ℕ) : Type 0 where
   pub long : length s ≡ 1 + lengthByte s
   pub some : 0 < lengthByte s
   pub fits : overhead (sizesIn s) ≤ lengthByte s
-  pub intact : isShort s ≡ false → getD s (lengthByte s) 0 ≡ crcOf (part 1 (lengthByte s - 1) s)
-  pub allowed : isShort s ≡ false → headerIn s .control < 4
+  pub intact : hasShortLength s ≡ false → getD s (lengthByte s) 0 ≡ crcOf (part 1 (lengthByte s - 1) s)
+  pub allowed : hasShortLength s ≡ false → headerIn s .control < 4
 
 -- the tests of a long form, in their order
 abbrev longTests : List ℕ → ℕ
@@ -34,7 +34,7 @@ longTests s =
     0))
 
 module _ (s : List ℕ) (some : 0 < lengthByte s) (long : length s ≡ 1 + lengthByte s) where
-  sound-short : isShort s ≡ true → Sound s
+  sound-short : hasShortLength s ≡ true → Sound s
   sound-short h = record {
     long = long;
     some = some;
@@ -43,7 +43,7 @@ module _ (s : List ℕ) (some : 0 < lengthByte s) (long : length s ≡ 1 + lengt
     allowed = λ k. absurd (true≢false (sym h ∙ k));
   }
 
-  sound-long : isShort s ≡ false → longTests s ≡ 0 → Sound s
+  sound-long : hasShortLength s ≡ false → longTests s ≡ 0 → Sound s
   sound-long h e =
       let a = cond-no (not (isIntact s)) (refused-number Crc) e in
       let b = cond-no (isReserved (headerIn s)) (refused-number ReservedAddress) (a .1) in
@@ -57,7 +57,7 @@ module _ (s : List ℕ) (some : 0 < lengthByte s) (long : length s ≡ 1 + lengt
       }
 
 by-form : (s : List ℕ) → 0 < lengthByte s → length s ≡ 1 + lengthByte s
-    → (b : Bool) → isShort s ≡ b → cond b 0 (longTests s) ≡ 0 → Sound s
+    → (b : Bool) → hasShortLength s ≡ b → cond b 0 (longTests s) ≡ 0 → Sound s
 by-form s some long true h e = sound-short s some long h
 by-form s some long false h e = sound-long s some long h e
 
@@ -67,4 +67,4 @@ check-facts s e =
     let a = cond-no (isLengthWrong s) (refused-number Length) e in
     let w = neither (eqb (lengthByte s) 0) (not (eqb (length s) (1 + lengthByte s))) (a .0) in
     by-form s (omega (arith, eqb-false (lengthByte s) 0 (w .0)))
-    (eqb-true _ _ (not-false _ (w .1))) (isShort s) refl (a .1)
+    (eqb-true _ _ (not-false _ (w .1))) (hasShortLength s) refl (a .1)

@@ -63,8 +63,8 @@ abbrev pub optionalOf : Telegram → List ℕ
 optionalOf t = take (sizesFor t .optional) (t .optional)
 
 -- the fields of a telegram by their sizes, one after the other: all of Data_PL before the CRC (figure 10)
-abbrev pub rowBytes : Telegram → Sizes → List ℕ
-rowBytes t z =
+abbrev pub bytesBySize : Telegram → Sizes → List ℕ
+bytesBySize t z =
     be (z .header) (headerByte (t .header))
     ++ be (z .extension) (extensionByte (t .extension))
     ++ be (z .subtype) (t .subtype .value)
@@ -75,7 +75,7 @@ rowBytes t z =
 
 -- all of Data_PL before the CRC
 unfoldable pub bodyOf : Telegram → List ℕ
-bodyOf t = rowBytes t (sizesFor t)
+bodyOf t = bytesBySize t (sizesFor t)
 
 -- the CRC, which a short form does not have
 abbrev pub sealOf : Telegram → List ℕ

@@ -9,9 +9,9 @@ use Rattle.base_lists.specs.Lists.{padded}
 use Rattle.block_layout.specs.BigEndian.{Bytes}
 use Rattle.radio_telegram.specs.Output.{written, resultBytes}
 use Rattle.radio_erp2_model.specs.declared.Telegram.{Telegram}
-use Rattle.radio_erp2_model.specs.Header.{headerOf, isReserved}
+use Rattle.radio_erp2_model.specs.Header.{headerFields, isReserved}
 use Rattle.radio_erp2_model.specs.Sizes.{shortSizes, longSizes, overhead}
-use Rattle.radio_erp2_model.specs.Reading.{maxData, maxOptional, isShort, noHeader, noExtension, noSubtype, noDestination, readOf}
+use Rattle.radio_erp2_model.specs.Reading.{maxData, maxOptional, hasShortLength, noHeader, noExtension, noSubtype, noDestination, readOf}
 use Rattle.radio_erp2_model.specs.Building.{isShortForm, dataOf, optionalOf, buildOf}
 
 -- ---- the round trips
@@ -63,24 +63,24 @@ shortRow l = 8 * shortSizes l .originator ∷ 8 * (l - overhead (shortSizes l)) 
 
 -- how many bits the Originator-ID and the Destination-ID have, by the header byte
 abbrev pub idRow : ℕ → List ℕ
-idRow b = 8 * longSizes (headerOf b) 0 .originator ∷ 8 * longSizes (headerOf b) 0 .destination ∷ []
+idRow b = 8 * longSizes (headerFields b) 0 .originator ∷ 8 * longSizes (headerFields b) 0 .destination ∷ []
 
 -- how many bits the extended header and the extended telegram type have, by the header byte
 abbrev pub optionalRow : ℕ → List ℕ
-optionalRow b = 8 * longSizes (headerOf b) 0 .extension ∷ 8 * longSizes (headerOf b) 0 .subtype ∷ []
+optionalRow b = 8 * longSizes (headerFields b) 0 .extension ∷ 8 * longSizes (headerFields b) 0 .subtype ∷ []
 
 -- Figures: the sizes are those in the tables.
 pub record Figures : Type 0 where
   -- figure 9, Length 1 to 6; 7 is a long form
   pub short : map shortRow (1 ∷ 2 ∷ 3 ∷ 4 ∷ 5 ∷ 6 ∷ [])
       ≡ (8 ∷ 0 ∷ []) ∷ (8 ∷ 8 ∷ []) ∷ (16 ∷ 8 ∷ []) ∷ (24 ∷ 8 ∷ []) ∷ (32 ∷ 8 ∷ []) ∷ (32 ∷ 16 ∷ []) ∷ []
-  pub forms : map (λ (l : ℕ). isShort (l ∷ [])) (1 ∷ 6 ∷ 7 ∷ []) ≡ true ∷ true ∷ false ∷ []
+  pub forms : map (λ (l : ℕ). hasShortLength (l ∷ [])) (1 ∷ 6 ∷ 7 ∷ []) ≡ true ∷ true ∷ false ∷ []
   -- figure 11, bits 5 to 7: 000, 001, 010, 011, and the reserved 100, 101, 110, 111
   pub control : map idRow (0x00 ∷ 0x20 ∷ 0x40 ∷ 0x60 ∷ [])
       ≡ (24 ∷ 0 ∷ []) ∷ (32 ∷ 0 ∷ []) ∷ (32 ∷ 32 ∷ []) ∷ (48 ∷ 0 ∷ []) ∷ []
-  pub allowed : map (λ (b : ℕ). isReserved (headerOf b)) (0x1F ∷ 0x3F ∷ 0x5F ∷ 0x7F ∷ [])
+  pub allowed : map (λ (b : ℕ). isReserved (headerFields b)) (0x1F ∷ 0x3F ∷ 0x5F ∷ 0x7F ∷ [])
       ≡ false ∷ false ∷ false ∷ false ∷ []
-  pub reserved : map (λ (b : ℕ). isReserved (headerOf b)) (0x80 ∷ 0xA0 ∷ 0xC0 ∷ 0xE0 ∷ [])
+  pub reserved : map (λ (b : ℕ). isReserved (headerFields b)) (0x80 ∷ 0xA0 ∷ 0xC0 ∷ 0xE0 ∷ [])
       ≡ true ∷ true ∷ true ∷ true ∷ []
   -- figure 11, bit 4 and bits 0 to 3: an extended header by 1, an extended telegram type by 1111
   pub optional : map optionalRow (0x0E ∷ 0x0F ∷ 0x1E ∷ 0x1F ∷ [])

@@ -8,8 +8,8 @@ use Rattle.radio_erp2_model.specs.declared.Extension.{Extension}
 -- ---- the header (figure 11): bits 5 to 7 address control, bit 4 extended header available, bits 0 to 3 telegram type
 
 -- the parts of a header byte
-abbrev pub headerOf : ℕ → Header
-headerOf b = record { control = b / 32; extended = eqb (b / 16 % 2) 1; kind = b % 16 }
+abbrev pub headerFields : ℕ → Header
+headerFields b = record { control = b / 32; extended = eqb (b / 16 % 2) 1; kind = b % 16 }
 
 -- the byte of a header
 abbrev pub headerByte : Header → ℕ

@@ -18,7 +18,7 @@ use Rattle.radio_erp2_model.specs.declared.Subtype.{Subtype}
 use Rattle.radio_erp2_model.specs.declared.Destination.{Destination}
 use Rattle.radio_erp2_model.specs.declared.Telegram.{Telegram}
 use Rattle.radio_erp2_model.specs.declared.Reading.{Reading}
-use Rattle.radio_erp2_model.specs.Header.{headerOf, extensionOf, isReserved, isTypeExtended, isAddressed}
+use Rattle.radio_erp2_model.specs.Header.{headerFields, extensionOf, isReserved, isTypeExtended, isAddressed}
 use Rattle.radio_erp2_model.specs.Sizes.{maxShort, shortSizes, longSizes, overhead, extensionAt, subtypeAt, originatorAt, destinationAt, payloadAt}
 
 -- the longest data and the longest optional data of any telegram
@@ -39,8 +39,8 @@ abbrev pub isLengthWrong : List ℕ → Bool
 isLengthWrong s = eqb (lengthByte s) 0 || not (eqb (length s) (1 + lengthByte s))
 
 -- Length 1 to 6 has no header and no CRC (4.4)
-abbrev pub isShort : List ℕ → Bool
-isShort s = leb (lengthByte s) maxShort
+abbrev pub hasShortLength : List ℕ → Bool
+hasShortLength s = leb (lengthByte s) maxShort
 
 -- the last byte is the CRC "over all of Data_PL before it" (4.6)
 abbrev pub isIntact : List ℕ → Bool
@@ -48,11 +48,11 @@ isIntact s = eqb (getD s (lengthByte s) 0) (crcOf (part 1 (lengthByte s - 1) s))
 
 -- the header of a long form is its first byte; the extended header, if present, is its second
 abbrev pub headerIn : List ℕ → Header
-headerIn s = headerOf (getD s 1 0)
+headerIn s = headerFields (getD s 1 0)
 
 -- the sizes of the fields in a list
 abbrev pub sizesIn : List ℕ → Sizes
-sizesIn s = cond (isShort s) (shortSizes (lengthByte s)) (longSizes (headerIn s) (getD s 2 0 % 16))
+sizesIn s = cond (hasShortLength s) (shortSizes (lengthByte s)) (longSizes (headerIn s) (getD s 2 0 % 16))
 
 -- "fields that don't fit the length": the fields alone are longer than the telegram
 abbrev pub isOverrun : List ℕ → Bool
@@ -62,7 +62,7 @@ isOverrun s = ltb (lengthByte s) (overhead (sizesIn s))
 unfoldable pub checkOf : List ℕ → ℕ
 checkOf s =
     cond (isLengthWrong s) (numberOf Length)
-    (cond (isShort s) 0
+    (cond (hasShortLength s) 0
     (cond (not (isIntact s)) (numberOf Crc)
     (cond (isReserved (headerIn s)) (numberOf ReservedAddress)
     (cond (isOverrun s) (numberOf Misfit)
@@ -71,9 +71,9 @@ checkOf s =
 -- ---- the fields
 
 -- the fields of a list by their sizes, with n bytes of data; a field of 0 bytes reads as 0
-abbrev pub rowOf : List ℕ → Sizes → ℕ → ℕ → Telegram
-rowOf s z n short =
-    let h = headerOf (unbe (part 1 (z .header) s)) in
+abbrev pub fieldsBySize : List ℕ → Sizes → ℕ → ℕ → Telegram
+fieldsBySize s z n short =
+    let h = headerFields (unbe (part 1 (z .header) s)) in
     let b = unbe (part (extensionAt z) (z .extension) s) in
     record {
       short = short;
@@ -89,7 +89,7 @@ rowOf s z n short =
 
 -- the fields of a list in which they fit; the data is the rest
 unfoldable pub fieldsOf : List ℕ → Telegram
-fieldsOf s = rowOf s (sizesIn s) (lengthByte s - overhead (sizesIn s)) (cond (isShort s) (lengthByte s) 0)
+fieldsOf s = fieldsBySize s (sizesIn s) (lengthByte s - overhead (sizesIn s)) (cond (hasShortLength s) (lengthByte s) 0)
 
 -- ---- fields that are not present
 

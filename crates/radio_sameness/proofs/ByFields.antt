@@ -17,7 +17,7 @@ use Rattle.radio_erp1.specs.Subtelegram.{hashOf, bodyOf, statusOf, sealedOf, is
 use Rattle.radio_erp1.specs.Same.{isSame}
 use Rattle.radio_erp1.proofs.Checks.{Sound, check-facts}
 use Rattle.radio_telegram.specs.declared.fields.Telegram.{Telegram}
-use Rattle.radio_telegram.specs.Fields.{plainFields, addressedFields, fieldsOf, dataOf, headOf, idsOf, telegramBytes, isUnbuildable, Buildable, Shaped, normalOf}
+use Rattle.radio_telegram.specs.Fields.{plainFields, addressedFields, fieldsOf, dataOf, beforeData, idsOf, telegramBytes, isUnbuildable, Buildable, Shaped, normalOf}
 use Rattle.radio_sameness.specs.Sameness.{isSameAddress, isSameData, isSameTelegram, SameByFields}
 use Rattle.radio_telegram.proofs.Parts.{body-more}
 use Rattle.radio_telegram.proofs.Reading.{fields-fit}
@@ -28,7 +28,7 @@ use Rattle.radio_telegram.proofs.RoundTrip.{built-reads, read-builds, read-shap
 
 -- as it is written
 abbrev frontOf : Telegram → List ℕ
-frontOf t = (headOf t ++ dataOf t) ++ idsOf t
+frontOf t = (beforeData t ++ dataOf t) ++ idsOf t
 
 -- with STATUS
 abbrev writtenOf : Telegram → List ℕ

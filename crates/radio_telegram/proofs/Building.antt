@@ -17,7 +17,7 @@ use Rattle.radio_telegram.proofs.Frames.{unrefused}
 use Rattle.radio_telegram.specs.declared.fields.Telegram.{Telegram}
 use Rattle.radio_telegram.specs.declared.frame.Built.the-variants.{Refused}
 use Rattle.radio_telegram.specs.Output.{resultOf, putOf}
-use Rattle.radio_telegram.specs.Fields.{maxData, dataOf, headOf, idsOf, telegramBytes, isUnbuildable, buildOf, admissionOf, Buildable, Shaped}
+use Rattle.radio_telegram.specs.Fields.{maxData, dataOf, beforeData, idsOf, telegramBytes, isUnbuildable, buildOf, admissionOf, Buildable, Shaped}
 
 -- ---- the lengths of what is built
 
@@ -40,7 +40,7 @@ module _ (t : Telegram) (shape : Shaped t) (high : t .len ≤ maxData) where
   bytes-plain e = simp (length-append, data-length, ids-plain e, e) (omega arith)
 
   -- the parts of what is built
-  pub bytes-length : length (telegramBytes t) ≡ length (headOf t) + t .len + length (idsOf t) + 2
+  pub bytes-length : length (telegramBytes t) ≡ length (beforeData t) + t .len + length (idsOf t) + 2
   unfolding telegramBytes
   bytes-length = simp (length-append, data-length) (omega arith)
 

@@ -7,7 +7,7 @@ use native.Mathlib.Nat.{add-sub-of-le}
 use native.Mathlib.Numerals.{add-one}
 use lib.ListN.{length, getD, take, length-append}
 use lib.Seq.{take-at, drop-at, getD-at, take-add, take-suc}
-use Rattle.radio_erp1.specs.Subtelegram.{hashOf, bodyOf, lastOf, sealedOf}
+use Rattle.radio_erp1.specs.Subtelegram.{hashOf, bodyOf, lastByte, sealedOf}
 use Rattle.radio_telegram.specs.Fields.{between}
 
 -- ---- a list's parts, put together
@@ -22,13 +22,13 @@ part-at : (p m q s : List ℕ) (a b : ℕ) → s ≡ p ++ (m ++ q) → length p 
 part-at p m q s a b e h k = rw (e, drop-at p (m ++ q) a h) (take-at m q (b - a) (omega arith))
 
 -- ---- a list with one element more, and so a sealed one, which has the right HASH
-pub last-more : (xs : List ℕ) (x : ℕ) → lastOf (xs ++ (x ∷ [])) ≡ x
+pub last-more : (xs : List ℕ) (x : ℕ) → lastByte (xs ++ (x ∷ [])) ≡ x
 last-more xs x = getD-at xs x [] 0 _ (simp length-append (omega arith))
 
 pub body-more : (xs : List ℕ) (x : ℕ) → bodyOf (xs ++ (x ∷ [])) ≡ xs
 body-more xs x = take-at xs (x ∷ []) (length (xs ++ (x ∷ [])) - 1) (simp length-append (omega arith))
 
-pub sealed-hashed : (body : List ℕ) → lastOf (sealedOf body) ≡ hashOf (bodyOf (sealedOf body))
+pub sealed-hashed : (body : List ℕ) → lastByte (sealedOf body) ≡ hashOf (bodyOf (sealedOf body))
 sealed-hashed body = last-more body (hashOf body) ∙ ap hashOf (sym (body-more body (hashOf body)))
 
 -- ---- the layout: what stands before DATA, DATA, DESTID or nothing, TXID, STATUS, HASH
@@ -63,7 +63,7 @@ module _ (H D E X : List ℕ) (st : ℕ) where
       rw (append-assoc ((H ++ D) ++ (E ++ X)) (st ∷ []) (hashOf bodyLaid ∷ []))
       (getD-at ((H ++ D) ++ (E ++ X)) st (hashOf bodyLaid ∷ []) 0 n (simp length-append (omega arith)))
 
-  pub laid-hashed : lastOf laid ≡ hashOf (bodyOf laid)
+  pub laid-hashed : lastByte laid ≡ hashOf (bodyOf laid)
   unfolding laid
   laid-hashed = sealed-hashed bodyLaid
 

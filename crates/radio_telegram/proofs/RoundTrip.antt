@@ -8,7 +8,7 @@ use lib.ListN.{length, getD, take, drop, replicate, length-append, length-drop, 
 use lib.Seq.{take-at, take-all, length-take-le}
 use borrow.Author.Tests.{eqb-true, eqb-false}
 use Rattle.base_lists.specs.Lists.{padded}
-use Rattle.radio_erp1.specs.Subtelegram.{addressed, bodyOf, lastOf, statusOf, isAddressed, checkOf, sealedOf}
+use Rattle.radio_erp1.specs.Subtelegram.{addressed, bodyOf, lastByte, statusOf, isAddressed, checkOf, sealedOf}
 use Rattle.radio_erp1.proofs.Checks.{Sound, check-plain, check-addressed, status-at}
 use Rattle.radio_telegram.specs.declared.fields.Telegram.{Telegram}
 use Rattle.radio_telegram.specs.Fields.{maxData, between, plainFields, addressedFields, fieldsOf, dataOf, telegramBytes, Buildable, Shaped, normalOf}
@@ -150,7 +150,7 @@ data-is p q n s e h k = take-at (between p q s) _ n (part-length p q s h k ∙ s
 
 module _ (s : List ℕ) (v : Sound s) where
   -- all bytes but the last, and the last
-  whole : bodyOf s ++ (lastOf s ∷ []) ≡ s
+  whole : bodyOf s ++ (lastByte s ∷ []) ≡ s
   whole =
       take-next (length s - 1) (length s) s (omega (arith, v .low)) (omega (arith, v .low))
       ∙ take-all (length s) s (omega arith)

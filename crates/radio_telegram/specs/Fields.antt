@@ -82,15 +82,15 @@ abbrev pub dataOf : Telegram → List ℕ
 dataOf t = take (t .len) (t .payload)
 
 -- what comes before DATA; and what comes between DATA and STATUS
-abbrev pub headOf : Telegram → List ℕ
-headOf t = cond (t .addressed) (addressed ∷ t .rorg ∷ []) (t .rorg ∷ [])
+abbrev pub beforeData : Telegram → List ℕ
+beforeData t = cond (t .addressed) (addressed ∷ t .rorg ∷ []) (t .rorg ∷ [])
 
 abbrev pub idsOf : Telegram → List ℕ
 idsOf t = cond (t .addressed) (t .destid ++ t .txid) (t .txid)
 
 -- every byte of a telegram: [0xA6,] RORG, DATA, [DESTID,] TXID, STATUS, HASH
 unfoldable pub telegramBytes : Telegram → List ℕ
-telegramBytes t = sealedOf (((headOf t ++ dataOf t) ++ idsOf t) ++ (t .status ∷ []))
+telegramBytes t = sealedOf (((beforeData t ++ dataOf t) ++ idsOf t) ++ (t .status ∷ []))
 
 -- "DATA not 1 to 14 or RORG 0xA6 when building"
 unfoldable pub isUnbuildable : Telegram → Bool

@@ -7,7 +7,7 @@ ghost use Rattle.radio_erp1.specs.Subtelegram.{minLength, maxLength, minAddress
 ghost use Rattle.radio_telegram.specs.Frame.{frameOf};
 ghost use Rattle.radio_telegram.specs.Private.{Extended};
 ghost use Rattle.radio_telegram.specs.Output.{resultOf};
-ghost use Rattle.radio_telegram.specs.Fields.{maxData, noTelegram, plainFields, addressedFields, shownReading, readOf, admissionOf, Buildable, headOf, idsOf, telegramBytes, buildOf};
+ghost use Rattle.radio_telegram.specs.Fields.{maxData, noTelegram, plainFields, addressedFields, shownReading, readOf, admissionOf, Buildable, beforeData, idsOf, telegramBytes, buildOf};
 use crate::frame;
 use crate::frame::Built;
 use crate::frame::Frame;
@@ -190,7 +190,7 @@ fn frame_of(t: Telegram) -> Frame
 
 // What comes before DATA.
 fn head(t: Telegram) -> Frame
-    ensures { λ r. ⌜ r ≡ frameOf (headOf t) ⌝ }
+    ensures { λ r. ⌜ r ≡ frameOf (beforeData t) ⌝ }
 {
     if t.addressed {
         return Frame::empty().push(radio_erp1::ADDRESSED).push(t.rorg);

@@ -1,5 +1,5 @@
 // Reports for C and Rust, on plain numbers and bytes: for the benchmark.
-use archive_file::Outcome;
+use archive_file::ArchiveOutcome;
 use archive_report::Added;
 use archive_report::Adding;
 use archive_report::Report;
@@ -25,9 +25,9 @@ fn packed_of(r: Added) -> u64 {
     let answer = r.answer;
     let next = r.next;
     match answer {
-        Outcome::Done => packed(0, next.count, next.kept, next.loose),
-        Outcome::Damaged(_) => packed(12, 0, 0, 0),
-        Outcome::Refused(why) => packed(base_refusal::number(why), 0, 0, 0),
+        ArchiveOutcome::Done => packed(0, next.count, next.kept, next.loose),
+        ArchiveOutcome::Damaged(_) => packed(12, 0, 0, 0),
+        ArchiveOutcome::Refused(why) => packed(base_refusal::number(why), 0, 0, 0),
     }
 }
 

@@ -106,7 +106,7 @@ fn take_cell(c: Collector, cell: &[u8]) -> collector_state::Taken
 fn received(cell: &[u8]) -> &[u8]
     requires { ⌜ length (now cell) ≡ 32 ⌝ }
 {
-    let n = least(wide(cell[8]));
+    let n = least(base_numbers::usize_of_byte(cell[8]));
     &cell[9..9 + n]
 }
 
@@ -123,8 +123,4 @@ fn least(n: usize) -> usize
     ensures { λ r. ⌜ r ≤ 21 ⌝ }
 {
     if n < 21 { n } else { 21 }
-}
-
-fn wide(x: u8) -> usize {
-    x as usize
 }

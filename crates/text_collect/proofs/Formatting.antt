@@ -3,12 +3,12 @@ use mathlib.Core.Path.{_≡_, refl}
 use mathlib.Core.List.{List}
 use Prim.Native.Nat.{ℕ}
 use lib.ListN.{take}
-use Rattle.collector_model.specs.Step.{Outcome, sentFor}
+use Rattle.collector_model.specs.Step.{StepOutcome, sentFor}
 use Rattle.text_lines.specs.Reading.{lineLimit, lineReading, reception, bad}
 use Rattle.text_lines.proofs.Long.{fronts-tell}
 use Rattle.text_rows.specs.declared.formats.Format.{Format}
 use Rattle.text_rows.specs.Text.{decimalText}
-use Rattle.text_rows.specs.Formats.{rowIn, badIn}
+use Rattle.text_rows.specs.Formats.{rowTextIn, badIn}
 use Rattle.text_program.specs.Chunks.{Bounded}
 use Rattle.text_program.specs.Collect.{Phase, starting, running, over}
 use Rattle.text_program.proofs.Limit.{bounded}
@@ -29,8 +29,8 @@ module _ (f : Format) where
     pub bad-text : lineReading l ≡ bad → textIn f (running c) l ≡ badIn f
     bad-text e = rw e
 
-    pub said-text : {t : ℕ} {bs time sent : List ℕ} (o : Outcome)
+    pub said-text : {t : ℕ} {bs time sent : List ℕ} (o : StepOutcome)
         → lineReading l ≡ reception t bs → o ≡ takenAt (c .view) t bs
         → time ≡ decimalText t → sent ≡ sentBytes (sentFor (c .setting) (o .answer) (receptionAt t bs))
-        → textIn f (running c) l ≡ rowIn f time (printedRow (o .answer)) bs sent (sourceOf bs)
+        → textIn f (running c) l ≡ rowTextIn f time (printedRow (o .answer)) bs sent (sourceOf bs)
     said-text o e k d s = rw (e, s, d, k)

@@ -11,7 +11,7 @@ use Rattle.base_lists.specs.Lists.{all}
 use Rattle.base_lists.proofs.Choice.{both}
 use Rattle.radio_telegram.specs.declared.frame.Frame.{Frame}
 use Rattle.collector_model.specs.View.{Reception, View}
-use Rattle.collector_model.specs.Step.{Outcome, sentFor}
+use Rattle.collector_model.specs.Step.{StepOutcome, sentFor}
 use Rattle.collector_model.specs.Reference.{totalsOf, modelView, answerTo, logOf}
 use Rattle.collector_model.proofs.Invariant.{Good, good-fresh}
 use Rattle.collector_model.proofs.Simulation.{same-sent, same-step, good-after}
@@ -25,7 +25,7 @@ use Rattle.text_program.specs.Lines.{linesOf, stateAfter, textOf, outputOf}
 use Rattle.text_program.specs.Chunks.{joined}
 use Rattle.text_program.specs.Collect.{Phase, starting, running, over, afterFirst, firstText, afterLine, lineText, phaseEnd, collect, collected}
 use Rattle.text_program.proofs.Limit.{collected-in-pieces}
-use Rattle.text_collect.specs.Printed.{printedRow, sentBytes, totalsLine, receptionAt, rowAfter, pastAfterLine, rowsAfter, pastAfterLines}
+use Rattle.text_collect.specs.Printed.{printedRow, sentBytes, totalsLine, receptionAt, rowAfter, pastAfterLine, rowTextsAfter, pastAfterLines}
 use Rattle.text_collect.specs.Printed.{printedWith, printedFor, printedOf}
 use Rattle.text_collect.specs.Session.{Receiver, modelCollector}
 use Rattle.text_collect.specs.Claims.{CollectPrints}
@@ -68,9 +68,10 @@ module _ (setting : ℕ) where
       let step = same-step (logOf past) r g in
       record {
         row =
-            ap (λ (o : Outcome). rowText t (printedRow (o .answer)) (sentBytes (sentFor setting (o .answer) r))) step
+            ap (λ (o : StepOutcome). rowText t (printedRow (o .answer)) (sentBytes (sentFor setting (o .answer) r)))
+            step
             ∙ ap (λ (f : Frame). rowText t (printedRow a) (sentBytes f)) (same-sent setting a r);
-        next = ap (λ (o : Outcome). record { setting = setting; view = o .next }) step;
+        next = ap (λ (o : StepOutcome). record { setting = setting; view = o .next }) step;
         good = good-after (logOf past) r g (said-small l e);
       }
 
@@ -81,8 +82,8 @@ module _ (setting : ℕ) where
   -- all of them: their rows, and the totals
   rows : (ls : List (List ℕ)) (past : List Reception) → Good (modelView (logOf past))
       → writtenFrom (running (at past)) ls
-      ≡ joined (rowsAfter setting past ls) ++ totalsLine (totalsOf (logOf (pastAfterLines past ls)))
-  unfolding textOf stateAfter joined rowsAfter pastAfterLines
+      ≡ joined (rowTextsAfter setting past ls) ++ totalsLine (totalsOf (logOf (pastAfterLines past ls)))
+  unfolding textOf stateAfter joined rowTextsAfter pastAfterLines
   rows [] past g = no-lines past
   rows (l ∷ ls) past g =
       let a = lineReading l in
@@ -95,7 +96,7 @@ module _ (setting : ℕ) where
       ∙ append-assoc row (textOf (collect modelCollector) (running (at more)) ls)
       (phaseEnd modelCollector (stateAfter (collect modelCollector) (running (at more)) ls))
       ∙ ap (λ (x : List ℕ). row ++ x) (rows ls more (w .good))
-      ∙ sym (append-assoc row (joined (rowsAfter setting more ls))
+      ∙ sym (append-assoc row (joined (rowTextsAfter setting more ls))
       (totalsLine (totalsOf (logOf (pastAfterLines more ls)))))
 
 -- ---- the first line

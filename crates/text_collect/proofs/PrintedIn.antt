@@ -6,7 +6,7 @@ use mathlib.Core.List.{List, [], _∷_, _++_, append-assoc, append-nil}
 use lib.Dec.{lit<}
 use Rattle.radio_telegram.specs.declared.frame.Frame.{Frame}
 use Rattle.collector_model.specs.View.{Reception, View}
-use Rattle.collector_model.specs.Step.{Outcome, sentFor}
+use Rattle.collector_model.specs.Step.{StepOutcome, sentFor}
 use Rattle.collector_model.specs.Reference.{totalsOf, modelView, answerTo, logOf}
 use Rattle.collector_model.proofs.Invariant.{Good, good-fresh}
 use Rattle.collector_model.proofs.Simulation.{same-sent, same-step, good-after}
@@ -15,15 +15,15 @@ use Rattle.text_lines.specs.declared.Setting.{Setting}
 use Rattle.text_lines.specs.Reading.{lineLimit, Reading, reception, bad, settingOf, lineReading}
 use Rattle.text_rows.specs.declared.formats.Format.{Format}
 use Rattle.text_rows.specs.Text.{decimalText}
-use Rattle.text_rows.specs.Formats.{rowIn, badIn, headingIn}
+use Rattle.text_rows.specs.Formats.{rowTextIn, badIn, headingIn}
 use Rattle.text_program.specs.Lines.{linesOf, stateAfter, textOf, outputOf}
 use Rattle.text_program.specs.Chunks.{joined}
 use Rattle.text_program.specs.Collect.{Phase, starting, running, over, afterFirst, afterLine}
 use Rattle.text_program.proofs.Pieces.{in-pieces}
 use Rattle.text_collect.specs.Printed.{printedRow, sentBytes, receptionAt, pastAfterLine, pastAfterLines}
-use Rattle.text_collect.specs.Printed.{totalsLine, rowAfter, rowsAfter, printedWith, printedFor, printedOf}
+use Rattle.text_collect.specs.Printed.{totalsLine, rowAfter, rowTextsAfter, printedWith, printedFor, printedOf}
 use Rattle.text_collect.specs.Session.{Receiver, modelCollector}
-use Rattle.text_collect.specs.Formats.{sourceOf, firstIn, lineIn, endIn, totalsIn, collectIn}
+use Rattle.text_collect.specs.Formats.{sourceOf, firstLineIn, lineIn, endIn, totalsTextIn, collectIn}
 use Rattle.text_collect.specs.PrintedIn.{rowAfterIn, rowsAfterIn, printedWithIn, printedForIn, printedIn}
 use Rattle.text_collect.specs.PrintedIn.{FormatsPrint, FormatsInPieces, TextAsPrinted}
 use Rattle.text_collect.proofs.Formatting.{format-bounded}
@@ -55,24 +55,25 @@ module _ (f : Format) where
         let r = receptionAt t bs in
         let a = answerTo (logOf past) r in
         let step = same-step (logOf past) r g in
-        let sends : Outcome → List ℕ = λ o. sentBytes (sentFor setting (o .answer) r) in
+        let sends : StepOutcome → List ℕ = λ o. sentBytes (sentFor setting (o .answer) r) in
         record {
           row =
-              ap (λ (o : Outcome). rowIn f (decimalText t) (printedRow (o .answer)) bs (sends o) (sourceOf bs)) step
-              ∙ ap (λ (x : Frame). rowIn f (decimalText t) (printedRow a) bs (sentBytes x) (sourceOf bs))
+              ap (λ (o : StepOutcome). rowTextIn f (decimalText t) (printedRow (o .answer)) bs (sends o) (sourceOf bs))
+              step
+              ∙ ap (λ (x : Frame). rowTextIn f (decimalText t) (printedRow a) bs (sentBytes x) (sourceOf bs))
               (same-sent setting a r);
-          next = ap (λ (o : Outcome). record { setting = setting; view = o .next }) step;
+          next = ap (λ (o : StepOutcome). record { setting = setting; view = o .next }) step;
           good = good-after (logOf past) r g (said-small l e);
         }
 
-    no-lines : (past : List Reception) → writtenFrom (running (at past)) [] ≡ totalsIn f (totalsOf (logOf past))
+    no-lines : (past : List Reception) → writtenFrom (running (at past)) [] ≡ totalsTextIn f (totalsOf (logOf past))
     unfolding textOf stateAfter modelView
     no-lines past = refl
 
     -- all of them: their rows, and the totals
     rows : (ls : List (List ℕ)) (past : List Reception) → Good (modelView (logOf past))
         → writtenFrom (running (at past)) ls
-        ≡ joined (rowsAfterIn f setting past ls) ++ totalsIn f (totalsOf (logOf (pastAfterLines past ls)))
+        ≡ joined (rowsAfterIn f setting past ls) ++ totalsTextIn f (totalsOf (logOf (pastAfterLines past ls)))
     unfolding textOf stateAfter joined rowsAfterIn pastAfterLines
     rows [] past g = no-lines past
     rows (l ∷ ls) past g =
@@ -87,7 +88,7 @@ module _ (f : Format) where
         ∙ append-assoc row text (endIn f (stateAfter (collectIn f) (running (at more)) ls))
         ∙ ap (λ (x : List ℕ). row ++ x) (rows ls more (w .good))
         ∙ sym (append-assoc row (joined (rowsAfterIn f setting more ls))
-        (totalsIn f (totalsOf (logOf (pastAfterLines more ls)))))
+        (totalsTextIn f (totalsOf (logOf (pastAfterLines more ls)))))
 
   over-silent : (ls : List (List ℕ)) → writtenFrom over ls ≡ []
   unfolding textOf stateAfter
@@ -95,7 +96,7 @@ module _ (f : Format) where
   over-silent (l ∷ ls) = over-silent ls
 
   first-line : (s : Setting) (ls : List (List ℕ))
-      → (firstIn f s ++ textOf (collectIn f) (afterFirst modelCollector s) ls)
+      → (firstLineIn f s ++ textOf (collectIn f) (afterFirst modelCollector s) ls)
       ++ endIn f (stateAfter (collectIn f) (afterFirst modelCollector s) ls)
       ≡ printedWithIn f s ls
   first-line (Setting.Level n) ls =
@@ -121,13 +122,13 @@ formats-print f xs = formats-in-pieces f starting xs ∙ whole-input f (linesOf 
 
 text-row : (setting : ℕ) (past : List Reception) (a : Reading)
     → rowAfterIn Format.Text setting past a ≡ rowAfter setting past a
-unfolding rowIn badIn
+unfolding rowTextIn badIn
 text-row setting past (reception time bytes) = refl
 text-row setting past bad = refl
 
 text-rows : (setting : ℕ) (past : List Reception) (ls : List (List ℕ))
-    → rowsAfterIn Format.Text setting past ls ≡ rowsAfter setting past ls
-unfolding rowsAfterIn rowsAfter
+    → rowsAfterIn Format.Text setting past ls ≡ rowTextsAfter setting past ls
+unfolding rowsAfterIn rowTextsAfter
 text-rows setting past [] = refl
 text-rows setting past (l ∷ ls) =
     ap₂ _∷_ (text-row setting past (lineReading l)) (text-rows setting (pastAfterLine past (lineReading l)) ls)

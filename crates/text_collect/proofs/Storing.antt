@@ -12,7 +12,7 @@ use lib.Seq.{sets, getD-append-add, ext-getD, set-getD}
 use Rattle.base_lists.specs.Lists.{padded}
 use Rattle.base_lists.proofs.Padded.{take-padded}
 use Rattle.bytes.specs.Bytes.{indexOf}
-use Rattle.collector_model.specs.Step.{Outcome, sentFor}
+use Rattle.collector_model.specs.Step.{StepOutcome, sentFor}
 use Rattle.base_buffers.specs.Printed.{Printed}
 use Rattle.text_lines.specs.Ascii.{newline}
 use Rattle.text_lines.specs.Reading.{lineLimit, lineReading, reception, bad, frontOf, lineOf, bytesIn}
@@ -153,7 +153,7 @@ module _ (c : Receiver) (l : List ℕ) where
     pub bad-records : recordsIn (running c) l ≡ []
     bad-records = rw e
 
-  module _ {t : ℕ} {bs : List ℕ} (o : Outcome)
+  module _ {t : ℕ} {bs : List ℕ} (o : StepOutcome)
       (e : lineReading l ≡ reception t bs) (k : o ≡ takenAt (c .view) t bs) where
     pub said-next : nextPhase modelCollector (running c) l ≡ running (record { setting = c .setting; view = o .next })
     said-next = rw (e, k)

@@ -13,7 +13,7 @@ use lib.Seq.{take-nil, take-take, take-add, length-take-le}
 use Rattle.base_lists.proofs.Tests.{by-test}
 use Rattle.bytes.specs.Bytes.{indexOf}
 use Rattle.collector_model.specs.View.{View}
-use Rattle.collector_model.specs.Step.{Outcome}
+use Rattle.collector_model.specs.Step.{StepOutcome}
 use Rattle.collector_state.specs.Collector.{Columns, columnsAfter}
 use Rattle.collector_state.specs.Admission.{Tested}
 use Rattle.base_buffers.specs.Printed.{Printed}
@@ -234,7 +234,7 @@ module _ (p : Program (Phase Receiver)) (b : Bounded p lineLimit) {Ready : List 
               (tick most left (i .few) some);
         }
 
-    pub said-taken : {t : ℕ} {bs text out' moments' rows' closed' : List ℕ} {longest r n' k' : ℕ} (o : Outcome)
+    pub said-taken : {t : ℕ} {bs text out' moments' rows' closed' : List ℕ} {longest r n' k' : ℕ} (o : StepOutcome)
         {a' : Columns} → lineReading (lineAt input at) ≡ reception t bs → o ≡ takenAt v t bs
         → a' ≡ columnsAfter v (receptionAt t bs) a → Tested fit (o .next)
         → p .text (runningAt setting v) (lineAt input at) ≡ text → Printed out to text longest out' r → r ≤ length out

@@ -21,15 +21,15 @@ columnsIn (running c) l a = columnsByLine c (lineReading l) a
 columnsIn over l a = a
 
 -- a run, and the columns of its collector
-pub record Held : Type 0 where
+pub record PhaseColumns : Type 0 where
   pub phase : Phase Receiver
   pub columns : Columns
 
-abbrev pub held : Phase Receiver → Columns → Held
+abbrev pub held : Phase Receiver → Columns → PhaseColumns
 held s a = record { phase = s; columns = a }
 
 -- a program over the same lines as `collect`, which writes nothing
-abbrev pub lineColumns : Program Held
+abbrev pub lineColumns : Program PhaseColumns
 lineColumns = record {
   next = λ h l. held (nextPhase modelCollector (h .phase) l) (columnsIn (h .phase) l (h .columns));
   text = λ h l. [];

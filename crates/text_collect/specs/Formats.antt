@@ -12,7 +12,7 @@ use Rattle.text_rows.specs.declared.formats.Format.{Format}
 use Rattle.text_rows.specs.declared.formats.Source.{Source}
 use Rattle.text_rows.specs.Text.{decimalText}
 use Rattle.text_rows.specs.Longest.{longestNumber}
-use Rattle.text_rows.specs.Formats.{rowIn, badIn, headingIn, longestRowIn}
+use Rattle.text_rows.specs.Formats.{rowTextIn, badIn, headingIn, longestRowIn}
 use Rattle.text_program.specs.Lines.{Program}
 use Rattle.text_program.specs.Collect.{Phase, starting, running, over, nextPhase}
 use Rattle.text_collect.specs.Printed.{totalsLine}
@@ -27,33 +27,33 @@ sourceOf bytes =
 
 module _ (f : Format) where
   -- the first line: a level gives the heading; any other is BAD and ends the run
-  abbrev pub firstIn : Setting → List ℕ
-  firstIn (Setting.Level n) = headingIn f
-  firstIn Setting.Bad = badIn f
+  abbrev pub firstLineIn : Setting → List ℕ
+  firstLineIn (Setting.Level n) = headingIn f
+  firstLineIn Setting.Bad = badIn f
 
   -- a later line
   abbrev pub lineIn : Receiver → Reading → List ℕ
   lineIn c (reception time bytes) =
-      rowIn f (decimalText time) (modelCollector .answer c time bytes) bytes (modelCollector .sent c time bytes)
+      rowTextIn f (decimalText time) (modelCollector .answer c time bytes) bytes (modelCollector .sent c time bytes)
       (sourceOf bytes)
   lineIn c bad = badIn f
 
   -- what a line prints, by the phase of the run
   abbrev pub textIn : Phase Receiver → List ℕ → List ℕ
-  textIn starting l = firstIn (settingOf l)
+  textIn starting l = firstLineIn (settingOf l)
   textIn (running c) l = lineIn c (lineReading l)
   textIn over l = []
 
 -- the totals are only at the end of the format text
-abbrev pub totalsIn : Format → Totals → List ℕ
-totalsIn Format.Text n = totalsLine n
-totalsIn Format.Csv n = []
-totalsIn Format.Json n = []
+abbrev pub totalsTextIn : Format → Totals → List ℕ
+totalsTextIn Format.Text n = totalsLine n
+totalsTextIn Format.Csv n = []
+totalsTextIn Format.Json n = []
 
 -- what is printed at the end
 abbrev pub endIn : Format → Phase Receiver → List ℕ
 endIn f starting = badIn f
-endIn f (running c) = totalsIn f (c .view .totals)
+endIn f (running c) = totalsTextIn f (c .view .totals)
 endIn f over = []
 
 -- the run: a program over the same lines as `collect`, so the claims on texts in pieces hold for it

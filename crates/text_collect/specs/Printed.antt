@@ -53,10 +53,10 @@ pastAfterLine past (reception time bytes) = receptionAt time bytes ∷ past
 pastAfterLine past bad = past
 
 -- the rows of lines, one for each
-unfoldable pub rowsAfter : (setting : ℕ) → List Reception → List (List ℕ) → List (List ℕ)
-rowsAfter setting past [] = []
-rowsAfter setting past (l ∷ ls) =
-    rowAfter setting past (lineReading l) ∷ rowsAfter setting (pastAfterLine past (lineReading l)) ls
+unfoldable pub rowTextsAfter : (setting : ℕ) → List Reception → List (List ℕ) → List (List ℕ)
+rowTextsAfter setting past [] = []
+rowTextsAfter setting past (l ∷ ls) =
+    rowAfter setting past (lineReading l) ∷ rowTextsAfter setting (pastAfterLine past (lineReading l)) ls
 
 -- the receptions after several lines
 unfoldable pub pastAfterLines : List Reception → List (List ℕ) → List Reception
@@ -66,7 +66,8 @@ pastAfterLines past (l ∷ ls) = pastAfterLines (pastAfterLine past (lineReading
 -- "`level N`, then lines of time and hex": a row for each line, and the totals; "a first line .. other than level 0, 1
 -- or 2 prints BAD alone"
 abbrev pub printedWith : Setting → List (List ℕ) → List ℕ
-printedWith (Setting.Level n) ls = joined (rowsAfter n [] ls) ++ totalsLine (totalsOf (logOf (pastAfterLines [] ls)))
+printedWith (Setting.Level n) ls = joined (rowTextsAfter n [] ls)
+    ++ totalsLine (totalsOf (logOf (pastAfterLines [] ls)))
 printedWith Setting.Bad ls = badText
 
 -- the same, also if there is no first line

@@ -9,14 +9,14 @@ use Rattle.text_lines.specs.declared.Setting.{Setting}
 use Rattle.text_lines.specs.Reading.{lineLimit, Reading, reception, bad, settingOf, lineReading}
 use Rattle.text_rows.specs.declared.formats.Format.{Format}
 use Rattle.text_rows.specs.Text.{decimalText}
-use Rattle.text_rows.specs.Formats.{rowIn, badIn, headingIn}
+use Rattle.text_rows.specs.Formats.{rowTextIn, badIn, headingIn}
 use Rattle.text_program.specs.Lines.{linesOf, outputOf}
 use Rattle.text_program.specs.Chunks.{joined}
 use Rattle.text_program.specs.Collect.{Phase, starting}
 use Rattle.text_program.specs.Claims.{piecesText}
 use Rattle.text_collect.specs.Printed.{printedRow, sentBytes, receptionAt, pastAfterLine, pastAfterLines, printedOf}
 use Rattle.text_collect.specs.Session.{Receiver}
-use Rattle.text_collect.specs.Formats.{sourceOf, totalsIn, collectIn}
+use Rattle.text_collect.specs.Formats.{sourceOf, totalsTextIn, collectIn}
 
 module _ (f : Format) where
   -- the row of a line, after these receptions, newest first
@@ -24,7 +24,7 @@ module _ (f : Format) where
   rowAfterIn setting past (reception time bytes) =
       let r = receptionAt time bytes in
       let a = answerTo (logOf past) r in
-      rowIn f (decimalText time) (printedRow a) bytes (sentBytes (sentWith setting a r)) (sourceOf bytes)
+      rowTextIn f (decimalText time) (printedRow a) bytes (sentBytes (sentWith setting a r)) (sourceOf bytes)
   rowAfterIn setting past bad = badIn f
 
   -- the rows of lines, one for each
@@ -36,7 +36,7 @@ module _ (f : Format) where
   -- after a right first line: the heading, a row for each line, and the totals if the format has them
   abbrev pub printedWithIn : Setting → List (List ℕ) → List ℕ
   printedWithIn (Setting.Level n) ls =
-      headingIn f ++ (joined (rowsAfterIn n [] ls) ++ totalsIn f (totalsOf (logOf (pastAfterLines [] ls))))
+      headingIn f ++ (joined (rowsAfterIn n [] ls) ++ totalsTextIn f (totalsOf (logOf (pastAfterLines [] ls))))
   printedWithIn Setting.Bad ls = badIn f
 
   -- the same, also if there is no first line

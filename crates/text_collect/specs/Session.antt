@@ -6,10 +6,10 @@ use mathlib.Core.List.{List}
 use lib.ListN.{length, take}
 use Rattle.radio_erp1.specs.Subtelegram.{maxLength}
 use Rattle.collector_model.specs.View.{View, fresh}
-use Rattle.collector_model.specs.Step.{Outcome, step, sentFor}
+use Rattle.collector_model.specs.Step.{StepOutcome, step, sentFor}
 use Rattle.collector_state.specs.Collector.{viewOf}
 use Rattle.text_rows.specs.Longest.{longestNumber, longestRow, longestTotals}
-use Rattle.text_program.specs.Collect.{Collector, Phase, starting, running, over, collect}
+use Rattle.text_program.specs.Collect.{AnyCollector, Phase, starting, running, over, collect}
 use Rattle.text_program.specs.Buffer.{isUnended, Fed}
 use Rattle.text_collect.specs.declared.Stage.{Stage}
 use Rattle.text_collect.specs.declared.Session.{Session}
@@ -19,7 +19,7 @@ use Rattle.text_collect.specs.Printed.{printedRow, sentBytes, totalsLine
 -- ---- the model's collector
 
 -- one reception
-abbrev pub takenAt : View → ℕ → List ℕ → Outcome
+abbrev pub takenAt : View → ℕ → List ℕ → StepOutcome
 takenAt v time bytes = step v (receptionAt time bytes)
 
 -- the collector, with the setting that its caller keeps (document 02, A7)
@@ -28,7 +28,7 @@ pub record Receiver : Type 0 where
   pub view : View
 
 -- the collector of the model, as `collect` needs it
-abbrev pub modelCollector : Collector Receiver
+abbrev pub modelCollector : AnyCollector Receiver
 modelCollector = record {
   fresh = λ setting. record { setting = setting; view = fresh };
   next = λ c time bytes. record { setting = c .setting; view = takenAt (c .view) time bytes .next };

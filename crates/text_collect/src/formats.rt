@@ -18,7 +18,7 @@ ghost use Rattle.radio_erp1.specs.Subtelegram.{checkedNumber};
 ghost use Rattle.collector_model.specs.Answer.{shownOf};
 ghost use Rattle.collector_state.specs.Collector.{columns, viewIn};
 ghost use Rattle.collector_state.specs.Admission.{relayedFor, Tested};
-ghost use Rattle.text_rows.specs.Formats.{rowIn};
+ghost use Rattle.text_rows.specs.Formats.{rowTextIn};
 ghost use Rattle.text_rows.specs.Longest.{longestNumber};
 ghost use Rattle.base_buffers.specs.Printed.{Printed};
 ghost use Rattle.text_collect.specs.Printed.{printedRow};
@@ -219,7 +219,7 @@ fn put_answer(
     requires { ⌜ (length (now time) ≤ longestNumber) × (length (now bytes) ≤ 64)
         × (at + longestLineIn ≤ length (now out)) ⌝ }
     ensures { λ r. ⌜ Printed (now (out .entry)) at
-        (rowIn format (now (time .entry)) (printedRow (shownOf answer)) (now (bytes .entry))
+        (rowTextIn format (now (time .entry)) (printedRow (shownOf answer)) (now (bytes .entry))
         (relayedFor setting (shownOf answer) (now (bytes .entry))) (sourceOf (now (bytes .entry))))
         longestLineIn (now (out .exit)) r ⌝ }
 {

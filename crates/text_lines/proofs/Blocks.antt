@@ -14,7 +14,7 @@ use borrow.Author.Tests.{lt-ltb}
 use Rattle.base_lists.specs.Lists.{all, padded}
 use Rattle.text_lines.specs.Ascii.{newline}
 use Rattle.text_lines.specs.Hex.{nibbleOf, isHexDigit, isHex, hexBytes, leadingBytes, Decoded}
-use Rattle.text_lines.specs.Private.{Ended, Covered, PutTwo, CopiedPart}
+use Rattle.text_lines.specs.Private.{EndedPairs, Covered, PutTwo, CopiedPart}
 use Rattle.text_lines.proofs.AtOnce.{all-places}
 use Rattle.text_lines.proofs.Pairs.{is-hex, leading-hex}
 
@@ -66,7 +66,7 @@ covered-later : {s bytes bytes' : List ℕ} {k : ℕ} → Covered s bytes k
     → getD bytes' k 0 ≡ getD bytes k 0 → Covered s bytes' k
 covered-later w e = record { high = w .high; low = w .low; value = e ∙ w .value }
 
-module _ (s bytes : List ℕ) (n : ℕ) (end : Ended s n) (long : length bytes ≡ 64)
+module _ (s bytes : List ℕ) (n : ℕ) (end : EndedPairs s n) (long : length bytes ≡ 64)
     (pairs : (k : ℕ) → k < n → Covered s bytes k) (zeros : (k : ℕ) → n ≤ k → k < 64 → getD bytes k 0 ≡ 0) where
   abbrev hex : List ℕ
   hex = take (2 * n) s
@@ -173,7 +173,7 @@ module _ {s c0 c1 c2 old mid new : List ℕ} {i j : ℕ} {r : Bool} (v b : List 
         other = λ k p q. second .outside k q ∙ first .outside k p;
       }
 
-module _ {s old : List ℕ} {n : ℕ} (end : Ended s n) (blank : old ≡ replicate 64 0) where
+module _ {s old : List ℕ} {n : ℕ} (end : EndedPairs s n) (blank : old ≡ replicate 64 0) where
   blank-at : (k : ℕ) → k < 64 → getD old k 0 ≡ 0
   blank-at k h = rw blank (getD-replicate 64 k 0 0 h)
 

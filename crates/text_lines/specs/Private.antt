@@ -16,7 +16,7 @@ pub record Thirteen (text : List ℕ) : Type 0 where
   pub ends : getD text 13 0 ≡ space
 
 -- a newline after n pairs of characters, n from 8 to 24; the text is long enough for 24 pairs and a newline
-pub record Ended (s : List ℕ) (n : ℕ) : Type 0 where
+pub record EndedPairs (s : List ℕ) (n : ℕ) : Type 0 where
   pub least : 8 ≤ n
   pub most : n ≤ 24
   pub long : 48 < length s

@@ -4,7 +4,7 @@ ghost use mathlib.Core.Bool.{true};
 ghost use Prim.Native.Nat.{ℕ, _+_, _*_, _/_, _%_, _<_, _≤_, min};
 ghost use lib.ListN.{length, getD, take, replicate};
 ghost use Rattle.text_lines.specs.Decimal.{isDigit, decimalOf, appended, timedOf};
-ghost use Rattle.text_lines.specs.Private.{Thirteen, Ended, PutTwo, CopiedPart};
+ghost use Rattle.text_lines.specs.Private.{Thirteen, EndedPairs, PutTwo, CopiedPart};
 ghost use Rattle.text_lines.specs.Hex.{maxBytes, nibbleOf, Decoded};
 ghost use Rattle.text_lines.specs.Reading.{settingOf, frontOf, badFront, lineOf, bytesIn};
 
@@ -222,7 +222,7 @@ fn decode(s: &[u8], bytes: &mut [u8; MAX_BYTES]) -> usize
 // How many pairs of characters come before a newline: 8 to 24, which includes every length of a subtelegram. 0 if there is no such newline, or if the
 // text is too short for 24 pairs and a newline. It does not test whether they are digits.
 fn count_pairs(s: &[u8]) -> usize
-    ensures { λ r. ⌜ (0 < r → Ended (now (s .entry)) r) ⌝ }
+    ensures { λ r. ⌜ (0 < r → EndedPairs (now (s .entry)) r) ⌝ }
 {
     if s.len() < 49 {
         return 0;
@@ -239,7 +239,7 @@ fn count_pairs(s: &[u8]) -> usize
 
 // Writes the bytes of n pairs to the front of zeros, eight at a time; the last eight end where the pairs end. Returns whether all are digits.
 fn decode_at_once(s: &[u8], n: usize, bytes: &mut [u8; MAX_BYTES]) -> bool
-    requires { ⌜ Ended (now s) n × (now bytes ≡ replicate maxBytes 0) ⌝ }
+    requires { ⌜ EndedPairs (now s) n × (now bytes ≡ replicate maxBytes 0) ⌝ }
     ensures { λ r. ⌜ (r ≡ true → Decoded (now (s .entry)) (now (bytes .exit)) n) ⌝ }
 {
     if n <= 16 {

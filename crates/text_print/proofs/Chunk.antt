@@ -19,7 +19,7 @@ use Rattle.text_program.proofs.Segments.{Drained, left, open-front}
 use Rattle.text_collect.specs.declared.Session.{Session}
 use Rattle.text_collect.specs.Session.{Receiver, modelCollector, phaseOf}
 use Rattle.text_collect.proofs.Taking.{same-length}
-use Rattle.text_print.specs.Step.{chunk, capacity, longestFinish, isOver, positionAfter, SteppedOver}
+use Rattle.text_print.specs.Step.{chunk, outputCapacity, longestFinish, isOver, positionAfter, SteppedOver}
 use Rattle.text_print.proofs.Parts.{put-part}
 use Rattle.text_print.proofs.Bound.{printed-bound}
 
@@ -78,7 +78,7 @@ module _ (buffer : List ℕ) (used end : ℕ) (fits : end ≤ length buffer) (or
   module _ {buffer' : List ℕ} {kept : ℕ} (k : Carried buffer used end buffer' kept)
       (few : end ≤ chunk) {s₀ : Phase Receiver} (session : Session) {out out' : List ℕ} {written : ℕ}
       (f : Fed (collect modelCollector) s₀ (take used (take end buffer)) out (phaseOf session) out' written)
-      (o : isUnended leftOver ≡ true) (size : length out ≡ capacity) where
+      (o : isUnended leftOver ≡ true) (size : length out ≡ outputCapacity) where
     stands : positionAfter s₀ (take end buffer) ≡ inLine (phaseOf session) keptOf
     stands = chunk-taken s₀ (phaseOf session) (f .state) o .0
 

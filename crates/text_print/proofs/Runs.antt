@@ -15,7 +15,7 @@ use Rattle.text_program.specs.Buffer.{isUnended}
 use Rattle.text_collect.specs.Printed.{printedOf}
 use Rattle.text_collect.specs.Session.{Receiver, modelCollector, phaseOf}
 use Rattle.text_print.specs.Step.{positionAfter, printedFrom, isOver}
-use Rattle.text_print.specs.Claims.{Moment, Made, IsRun, readIn, writtenIn, RunsPrint}
+use Rattle.text_print.specs.Claims.{Moment, Made, IsWholeRun, readIn, writtenIn, RunsPrint}
 use Rattle.text_print.proofs.Whole.{placeAfter, textAfter, printed-whole, more-stands, more-printed, at-over}
 use Rattle.text_print.proofs.Turning.{front-there, or-false, or-true}
 
@@ -79,9 +79,9 @@ module _ (x : List ℕ) (s : Phase Receiver) (kept : List ℕ) (here : placeAfte
     few-then = rw kept-then (omega (arith, k .step .kept, k .step .few))
 
 from-here : (ms : List Moment) (x : List ℕ) (s : Phase Receiver) (kept : List ℕ)
-    → placeAfter x ≡ inLine s kept → isUnended kept ≡ true → length kept ≤ lineLimit → IsRun s kept ms
+    → placeAfter x ≡ inLine s kept → isUnended kept ≡ true → length kept ≤ lineLimit → IsWholeRun s kept ms
     → textAfter x ++ writtenIn ms ≡ printedOf (x ++ readIn ms)
-unfolding IsRun joined
+unfolding IsWholeRun joined
 from-here [] x s kept here o few r = absurd r
 from-here (m ∷ []) x s kept here o few r =
     rw (append-nil (m .piece), append-nil (take (m .turn .written) (m .out')))

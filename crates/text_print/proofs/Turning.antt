@@ -18,7 +18,7 @@ use Rattle.text_program.specs.Buffer.{isUnended}
 use Rattle.text_collect.specs.Printed.{printedOf}
 use Rattle.text_collect.specs.Session.{Receiver, modelCollector, phaseOf}
 use Rattle.text_print.specs.declared.Turn.{Turn}
-use Rattle.text_print.specs.Step.{chunk, capacity, positionAfter, printedFrom, isOver, SteppedOver}
+use Rattle.text_print.specs.Step.{chunk, outputCapacity, positionAfter, printedFrom, isOver, SteppedOver}
 use Rattle.text_print.specs.Private.{Passed}
 use Rattle.text_print.proofs.Whole.{placeAfter, textAfter, then-stands, then-printed, at-end, at-over, front-short}
 
@@ -93,7 +93,7 @@ module _ (write : Bool) (input out₀ : List ℕ) {out : List ℕ} {s : Phase Re
     {kept : List ℕ} {at to : ℕ} (i : Passing write input out₀ out s kept at to) (n : ℕ)
     (size : n ≡ min (length input - at) (chunk - length kept)) {buffer text buffer' text' : List ℕ} (r : Turn)
     (k : SteppedOver s (kept ++ take n (drop at input)) buffer (eqb n 0) text buffer' text' r)
-    (long : length text ≡ capacity) where
+    (long : length text ≡ outputCapacity) where
   abbrev taken : List ℕ
   taken = kept ++ take n (drop at input)
 

@@ -11,7 +11,7 @@ use Rattle.text_program.specs.Collect.{Phase, starting}
 use Rattle.text_collect.specs.Printed.{printedOf}
 use Rattle.text_collect.specs.Session.{Receiver, phaseOf}
 use Rattle.text_print.specs.declared.Turn.{Turn}
-use Rattle.text_print.specs.Step.{chunk, capacity, SteppedOver}
+use Rattle.text_print.specs.Step.{chunk, outputCapacity, SteppedOver}
 
 -- one step: the piece that was read, both buffers before and after it, and its answer
 pub record Moment : Type 0 where
@@ -26,16 +26,16 @@ pub record Moment : Type 0 where
 -- input has ended
 pub record Made (s : Phase Receiver) (kept : List ℕ) (m : Moment) : Type 0 where
   pub bufferLong : length (m .buffer) ≡ chunk
-  pub outLong : length (m .out) ≡ capacity
+  pub outLong : length (m .out) ≡ outputCapacity
   pub step : SteppedOver s (kept ++ m .piece) (m .buffer) (eqb (length (m .piece)) 0) (m .out) (m .buffer') (m .out') (m .turn)
 
 -- steps one after the other, up to the one that ends the run
-unfoldable pub IsRun : Phase Receiver → List ℕ → List Moment → Type 0
-IsRun s kept [] = ⊥
-IsRun s kept (m ∷ []) = Made s kept m × (m .turn .ended ≡ true)
-IsRun s kept (m ∷ n ∷ ms) =
+unfoldable pub IsWholeRun : Phase Receiver → List ℕ → List Moment → Type 0
+IsWholeRun s kept [] = ⊥
+IsWholeRun s kept (m ∷ []) = Made s kept m × (m .turn .ended ≡ true)
+IsWholeRun s kept (m ∷ n ∷ ms) =
     Made s kept m × (m .turn .ended ≡ false)
-    × IsRun (phaseOf (m .turn .session)) (take (m .turn .kept) (m .buffer')) (n ∷ ms)
+    × IsWholeRun (phaseOf (m .turn .session)) (take (m .turn .kept) (m .buffer')) (n ∷ ms)
 
 -- what was read, and what was written
 abbrev pub readIn : List Moment → List ℕ
@@ -46,4 +46,4 @@ writtenIn ms = joined (map (λ (m : Moment). take (m .turn .written) (m .out')) 
 
 -- THE CLAIM: whatever pieces the reads give, the program writes what the reference model says for all that was read
 abbrev pub RunsPrint : Type 0
-RunsPrint = (ms : List Moment) → IsRun starting [] ms → writtenIn ms ≡ printedOf (readIn ms)
+RunsPrint = (ms : List Moment) → IsWholeRun starting [] ms → writtenIn ms ≡ printedOf (readIn ms)

@@ -18,8 +18,8 @@ use Rattle.text_print.specs.declared.Turn.{Turn}
 abbrev pub chunk : ℕ
 chunk = 16384
 
-abbrev pub capacity : ℕ
-capacity = 15 * chunk + 512
+abbrev pub outputCapacity : ℕ
+outputCapacity = 15 * chunk + 512
 
 -- the text at the end is at most this long: the row of a last line without a newline, and the totals
 abbrev pub longestFinish : ℕ
@@ -49,7 +49,7 @@ pub record SteppedOver (s : Phase Receiver) (text buffer : List ℕ) (last : Boo
   pub few : r .kept ≤ lineLimit
   pub unended : isUnended (positionAfter s text .line) ≡ true
   pub line : buffer' ≡ sets buffer 0 (positionAfter s text .line)
-  pub output : Printed out 0 (printedFrom s text last) capacity out' (r .written)
+  pub output : Printed out 0 (printedFrom s text last) outputCapacity out' (r .written)
   pub ended : r .ended ≡ (last || isOver (positionAfter s text .state))
 
 -- the same for the first `end` characters of the buffer, or all of them

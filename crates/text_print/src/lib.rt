@@ -17,7 +17,7 @@ ghost use Rattle.text_program.specs.Chunks.{inLine, endText};
 ghost use Rattle.text_program.specs.Collect.{collect};
 ghost use Rattle.text_program.specs.Buffer.{isUnended};
 ghost use Rattle.text_collect.specs.Session.{modelCollector, phaseOf};
-ghost use Rattle.text_print.specs.Step.{chunk, capacity, longestFinish, isOver, SteppedOver, Stepped};
+ghost use Rattle.text_print.specs.Step.{chunk, outputCapacity, longestFinish, isOver, SteppedOver, Stepped};
 ghost use Rattle.text_print.specs.Print.{printResult};
 ghost use Rattle.text_print.specs.Private.{Drained, Passed};
 
@@ -57,7 +57,7 @@ pub fn chunk_buffer() -> [u8; CHUNK]
 }
 
 pub fn text_buffer() -> [u8; CAPACITY]
-    ensures { λ r. ⌜ capacity ≡ length r ⌝ }
+    ensures { λ r. ⌜ outputCapacity ≡ length r ⌝ }
 {
     [0; CAPACITY]
 }
@@ -78,7 +78,7 @@ pub fn step(
 }
 
 fn take_chunk(s: Session, buffer: &mut [u8], end: usize, last: bool, out: &mut [u8]) -> Turn
-    requires { ⌜ (end ≤ chunk) × (length (now buffer) ≡ chunk) × (length (now out) ≡ capacity) ⌝ }
+    requires { ⌜ (end ≤ chunk) × (length (now buffer) ≡ chunk) × (length (now out) ≡ outputCapacity) ⌝ }
     ensures { λ r. ⌜ SteppedOver (phaseOf s) (take end (now (buffer .entry))) (now (buffer .entry)) last (now (out .entry))
         (now (buffer .exit)) (now (out .exit)) r ⌝ }
 {
@@ -125,7 +125,7 @@ fn is_over(s: Session) -> bool
 
 // Takes all whole lines of the input; `lines` is called again each time it stops.
 fn take_lines(s: Session, input: &[u8], out: &mut [u8]) -> Drain
-    requires { ⌜ (length (now input) ≤ chunk) × (length (now out) ≡ capacity) ⌝ }
+    requires { ⌜ (length (now input) ≤ chunk) × (length (now out) ≡ outputCapacity) ⌝ }
     ensures { λ r. ⌜ Drained (phaseOf s) (now (input .entry)) (now (out .entry)) (now (out .exit)) r ⌝ }
 {
     let mut s = s;

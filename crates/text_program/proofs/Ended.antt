@@ -8,10 +8,10 @@ use lib.ListN.{take}
 use Rattle.text_lines.specs.Ascii.{newline}
 use Rattle.text_lines.specs.Reading.{lineLimit}
 use Rattle.text_program.specs.Chunks.{inLine, atLineStart, feed, feedText, lastText, endText}
-use Rattle.text_program.specs.Collect.{Collector, over, collect}
+use Rattle.text_program.specs.Collect.{AnyCollector, over, collect}
 use Rattle.text_program.specs.Claims.{StaysEnded}
 
-module _ {C : Type 0} (m : Collector C) where
+module _ {C : Type 0} (m : AnyCollector C) where
   over-silent : (x l : List ℕ) → feedText (collect m) lineLimit (inLine over l) x ≡ []
   unfolding feedText
   over-silent [] l = refl
@@ -44,5 +44,5 @@ module _ {C : Type 0} (m : Collector C) where
       go true e f = e
       go false e f = f
 
-pub stays-ended : {C : Type 0} (m : Collector C) → StaysEnded m
+pub stays-ended : {C : Type 0} (m : AnyCollector C) → StaysEnded m
 stays-ended m line input = record { silent = over-silent m input line; noEnd = over-ends m input line }

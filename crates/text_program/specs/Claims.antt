@@ -6,7 +6,7 @@ use mathlib.Core.List.{List, [], _++_}
 use Rattle.text_lines.specs.Reading.{lineLimit}
 use Rattle.text_program.specs.Lines.{Program, outputOf}
 use Rattle.text_program.specs.Chunks.{Bounded, inLine, atLineStart, feed, feedText, feedAll, feedAllText, endText, joined}
-use Rattle.text_program.specs.Collect.{Collector, starting, over, collect, collected}
+use Rattle.text_program.specs.Collect.{AnyCollector, starting, over, collect, collected}
 
 -- what is written for the pieces, and then at the end
 abbrev pub piecesText : {S : Type 0} → Program S → ℕ → S → List (List ℕ) → List ℕ
@@ -20,15 +20,15 @@ InPieces {S} p limit =
 
 -- Collected in pieces: for `collect`, the first 150 characters decide. However the input is cut, the output is the
 -- same.
-abbrev pub CollectedInPieces : {C : Type 0} → Collector C → Type 0
+abbrev pub CollectedInPieces : {C : Type 0} → AnyCollector C → Type 0
 CollectedInPieces m = (xs : List (List ℕ)) → piecesText (collect m) lineLimit starting xs ≡ collected m (joined xs)
 
 -- a run that a wrong first line has ended writes nothing more, for any further input, however it is cut. So reading may
 -- stop there.
-pub record Ended {C : Type 0} (m : Collector C) (line input : List ℕ) : Type 0 where
+pub record Ended {C : Type 0} (m : AnyCollector C) (line input : List ℕ) : Type 0 where
   pub silent : feedText (collect m) lineLimit (inLine over line) input ≡ []
   pub noEnd : endText (collect m) (feed (collect m) lineLimit (inLine over line) input) ≡ []
 
 -- Stays ended: this holds for any input, also inside a line.
-abbrev pub StaysEnded : {C : Type 0} → Collector C → Type 0
+abbrev pub StaysEnded : {C : Type 0} → AnyCollector C → Type 0
 StaysEnded m = (line input : List ℕ) → Ended m line input

@@ -9,7 +9,7 @@ use Rattle.text_program.specs.Lines.{Program, outputOf}
 
 -- What the program needs of a collector: a collector with a level, the state after a reception, the answer, what is
 -- sent, and the line of totals.
-pub record Collector (C : Type 0) : Type 0 where
+pub record AnyCollector (C : Type 0) : Type 0 where
   pub fresh : ℕ → C
   pub next : C → (time : ℕ) (bytes : List ℕ) → C
   pub answer : C → (time : ℕ) (bytes : List ℕ) → Row
@@ -22,7 +22,7 @@ pub data Phase (C : Type 0) : Type 0 where
   running : C → Phase C
   over : Phase C
 
-module _ {C : Type 0} (m : Collector C) where
+module _ {C : Type 0} (m : AnyCollector C) where
   -- the first line: a level sets the collector; any other is BAD and ends the run
   abbrev pub afterFirst : Setting → Phase C
   afterFirst (Setting.Level n) = running (m .fresh n)

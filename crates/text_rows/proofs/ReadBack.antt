@@ -20,7 +20,8 @@ use Rattle.text_lines.proofs.Digits.{leading-zero}
 use Rattle.text_lines.proofs.Long.{first-value, long-time}
 use Rattle.text_lines.proofs.Whole.{joined}
 use Rattle.text_rows.specs.Text.{digitsOf, decimalText, hexDigitOf, hexText}
-use Rattle.text_rows.specs.Claims.{areBytes, NumbersBack, TimesBack, BytesBack, LinesBack}
+use Rattle.base_numbers.specs.Bytes.{areBytes}
+use Rattle.text_rows.specs.Claims.{NumbersBack, TimesBack, BytesBack, LinesBack}
 use Rattle.text_rows.proofs.Digits.{one-digit, several-digits}
 use Rattle.text_rows.proofs.Words.{hex-length}
 

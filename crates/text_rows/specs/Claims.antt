@@ -11,6 +11,7 @@ use Rattle.text_lines.specs.Decimal.{decimalOf, isTime}
 use Rattle.text_lines.specs.Hex.{maxBytes, isHex, hexBytes}
 use Rattle.text_lines.specs.Reading.{reception, lineReading}
 use Rattle.text_rows.specs.Text.{decimalText, hexText}
+use Rattle.base_numbers.specs.Bytes.{areBytes}
 
 -- a number of 64 bits that is printed is a time, and reads back as that number
 pub record NumberRead (n : ℕ) : Type 0 where
@@ -24,10 +25,6 @@ NumbersBack = (n : ℕ) → n < 2 ^ 64 → NumberRead n
 -- Times back: a time that was read is printed as it was written.
 abbrev pub TimesBack : Type 0
 TimesBack = (s : List ℕ) → isTime s ≡ true → decimalText (decimalOf s) ≡ s
-
--- all numbers are below 256
-abbrev pub areBytes : List ℕ → Bool
-areBytes bs = all (λ b. ltb b 256) bs
 
 -- bytes that are printed, at most 64, are bytes in hexadecimal, and read back as these bytes
 pub record BytesRead (bs : List ℕ) : Type 0 where

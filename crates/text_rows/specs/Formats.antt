@@ -4,7 +4,7 @@ use Prim.Native.Nat.{ℕ, _+_, _*_}
 use mathlib.Core.Bool.{cond}
 use mathlib.Core.List.{List, [], _∷_, _++_}
 use Rattle.text_rows.specs.Codes.{codes}
-use Rattle.text_rows.specs.Text.{decimalText, hexText, rowBehind, badText, counted}
+use Rattle.text_rows.specs.Text.{decimalText, hexText, rowBehind, badText, namedTotal}
 use Rattle.text_rows.specs.declared.Row.{Row}
 use Rattle.text_rows.specs.declared.formats.Format.{Format}
 use Rattle.text_rows.specs.declared.formats.Source.{Source}
@@ -15,7 +15,7 @@ hexAfter name bytes = name ++ hexText bytes
 
 -- where a telegram came from: its TXID, its RORG and its level, each after its name
 unfoldable pub sourceAfter : (txid rorg level : List ℕ) → Source → List ℕ
-sourceAfter txid rorg level s = hexAfter txid (s .txid) ++ hexAfter rorg (s .rorg ∷ []) ++ counted level (s .level)
+sourceAfter txid rorg level s = hexAfter txid (s .txid) ++ hexAfter rorg (s .rorg ∷ []) ++ namedTotal level (s .level)
 
 -- ---- comma-separated: a value that is not present is empty
 
@@ -23,7 +23,7 @@ unfoldable pub csvAnswer : Row → List ℕ
 csvAnswer Row.Kept = codes ",KEPT,"
 csvAnswer Row.Copy = codes ",COPY,"
 csvAnswer Row.Loose = codes ",LOOSE,"
-csvAnswer (Row.Refused n) = counted (codes ",REFUSED,") n
+csvAnswer (Row.Refused n) = namedTotal (codes ",REFUSED,") n
 
 unfoldable pub csvSource : Source → List ℕ
 csvSource s = cond (s .known) (sourceAfter (codes ",") (codes ",") (codes ",") s) (codes ",,,")
@@ -39,7 +39,7 @@ unfoldable pub jsonAnswer : Row → List ℕ
 jsonAnswer Row.Kept = codes ",\"answer\":\"KEPT\""
 jsonAnswer Row.Copy = codes ",\"answer\":\"COPY\""
 jsonAnswer Row.Loose = codes ",\"answer\":\"LOOSE\""
-jsonAnswer (Row.Refused n) = counted (codes ",\"answer\":\"REFUSED\",\"refusal\":") n
+jsonAnswer (Row.Refused n) = namedTotal (codes ",\"answer\":\"REFUSED\",\"refusal\":") n
 
 -- the closing quote of the text before, and what is sent
 unfoldable pub jsonSend : List ℕ → List ℕ
@@ -60,10 +60,10 @@ jsonRow time row heard sent source =
 
 -- the row of a reception, with the text of its time, its answer, what was received, what is sent for it, and where it
 -- came from
-unfoldable pub rowIn : Format → (time : List ℕ) → Row → (heard sent : List ℕ) → Source → List ℕ
-rowIn Format.Text time row heard sent source = rowBehind time row sent
-rowIn Format.Csv time row heard sent source = csvRow time row heard sent source
-rowIn Format.Json time row heard sent source = jsonRow time row heard sent source
+unfoldable pub rowTextIn : Format → (time : List ℕ) → Row → (heard sent : List ℕ) → Source → List ℕ
+rowTextIn Format.Text time row heard sent source = rowBehind time row sent
+rowTextIn Format.Csv time row heard sent source = csvRow time row heard sent source
+rowTextIn Format.Json time row heard sent source = jsonRow time row heard sent source
 
 -- the row of a line that is BAD
 unfoldable pub badIn : Format → List ℕ

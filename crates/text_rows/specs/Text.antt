@@ -66,16 +66,16 @@ abbrev pub badText : List ℕ
 badText = codes "BAD\n"
 
 -- a total after its name
-abbrev pub counted : List ℕ → ℕ → List ℕ
-counted name n = name ++ decimalText n
+abbrev pub namedTotal : List ℕ → ℕ → List ℕ
+namedTotal name n = name ++ decimalText n
 
 -- the totals, in this order
 unfoldable pub totalsText : (received kept copies loose damaged late : ℕ) → List ℕ
 totalsText received kept copies loose damaged late =
-    counted (codes "RECEIVED ") received
-    ++ counted (codes " KEPT ") kept
-    ++ counted (codes " COPIES ") copies
-    ++ counted (codes " LOOSE ") loose
-    ++ counted (codes " DAMAGED ") damaged
-    ++ counted (codes " LATE ") late
+    namedTotal (codes "RECEIVED ") received
+    ++ namedTotal (codes " KEPT ") kept
+    ++ namedTotal (codes " COPIES ") copies
+    ++ namedTotal (codes " LOOSE ") loose
+    ++ namedTotal (codes " DAMAGED ") damaged
+    ++ namedTotal (codes " LATE ") late
     ++ (newline ∷ [])

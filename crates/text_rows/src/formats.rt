@@ -8,7 +8,7 @@ ghost use lib.ListN.{length};
 ghost use Rattle.base_buffers.specs.Printed.{Printed, PrintedIfFits};
 ghost use Rattle.text_rows.specs.Longest.{longestNumber};
 ghost use Rattle.text_rows.specs.Formats.{hexAfter, sourceAfter, csvAnswer, csvSource, csvRow};
-ghost use Rattle.text_rows.specs.Formats.{jsonAnswer, jsonSend, jsonSource, jsonRow, rowIn, badIn, headingIn};
+ghost use Rattle.text_rows.specs.Formats.{jsonAnswer, jsonSend, jsonSource, jsonRow, rowTextIn, badIn, headingIn};
 ghost use Rattle.text_rows.specs.Formats.{longestRowIn, longestBadIn, longestHeading};
 
 pub enum Format {
@@ -50,7 +50,7 @@ pub fn put_row(
 ) -> usize
     ensures { λ r. ⌜ PrintedIfFits (now (out .entry)) at
         (longestRowIn (length (now (time .entry))) (length (now (heard .entry))) (length (now (sent .entry))))
-        (rowIn format (now (time .entry)) row (now (heard .entry)) (now (sent .entry)) source)
+        (rowTextIn format (now (time .entry)) row (now (heard .entry)) (now (sent .entry)) source)
         (now (out .exit)) r ⌝ }
 {
     let fixed = time.len() + LONGEST_ROW;

@@ -7,7 +7,7 @@ ghost use Prim.Native.Nat.{_+_, _*_, _≤_, _<_};
 ghost use lib.Dec.{leb};
 ghost use lib.ListN.{length, drop};
 ghost use Rattle.text_lines.specs.Private.{CopiedPart};
-ghost use Rattle.text_rows.specs.Text.{decimalText, hexDigitOf, hexText, answerText, rowBehind, badText, counted, totalsText};
+ghost use Rattle.text_rows.specs.Text.{decimalText, hexDigitOf, hexText, answerText, rowBehind, badText, namedTotal, totalsText};
 ghost use Rattle.base_buffers.specs.Printed.{Printed, PrintedIfFits};
 ghost use Rattle.text_rows.specs.Longest.{longestNumber, longestAnswer, longestRow, longestTotals};
 ghost use Rattle.text_rows.specs.Private.{DigitsOf};
@@ -156,7 +156,7 @@ fn write_totals(
 fn write_count(out: &mut [u8], at: usize, name: &[u8], n: u64) -> usize
     requires { ⌜ at + (length (now name) + longestNumber) ≤ length (now out) ⌝ }
     ensures { λ r. ⌜ Printed (now (out .entry)) at
-        (counted (now (name .entry)) n) (length (now (name .entry)) + longestNumber)
+        (namedTotal (now (name .entry)) n) (length (now (name .entry)) + longestNumber)
         (now (out .exit)) r ⌝ }
 {
     let from = write(out, at, name);

@@ -25,7 +25,7 @@ use Rattle.history_replay_model.specs.Claims as history_replay_model
 use Rattle.text_lines.specs.Claims as text_lines
 use Rattle.text_rows.specs.Claims as text_rows
 use Rattle.text_program.specs.Lines.{Program}
-use Rattle.text_program.specs.Collect.{Collector}
+use Rattle.text_program.specs.Collect.{AnyCollector}
 use Rattle.text_program.specs.Claims as text_program
 use Rattle.text_collect.specs.Claims as text_collect
 use Rattle.text_collect.specs.PrintedIn as text_collect_formats
@@ -169,11 +169,11 @@ pub record Code : Type 1 where
 
 pub record Records : Type 0 where
   -- Two runs with the same record showed the same.
-  pub records-tell-all : history_replay_model.ReadsBack
+  pub records-tell-all : history_replay_model.RecordReadsBack
   -- No number of the model is too large for its field in the record.
   pub records-hold-model : history_replay_model.ReferenceWhole
   -- The length of a record depends on the calls alone.
-  pub record-length-is-known : history_replay_model.Sized
+  pub record-length-is-known : history_replay_model.RecordSized
   -- If calls are made in two parts, the second record continues the first.
   pub records-join : history_replay_model.InParts
 
@@ -195,9 +195,9 @@ pub record Lines : Type 1 where
   -- A program over lines gives the same output however its input is cut, if the front of each line decides what the line says.
   pub cuts-change-nothing : {S : Type 0} (p : Program S) (limit : ℕ) → text_program.InPieces p limit
   -- `collect` is such a program.
-  pub collect-cuts-change-nothing : {C : Type 0} (m : Collector C) → text_program.CollectedInPieces m
+  pub collect-cuts-change-nothing : {C : Type 0} (m : AnyCollector C) → text_program.CollectedInPieces m
   -- After a wrong first line `collect` writes nothing more.
-  pub wrong-start-is-silent : {C : Type 0} (m : Collector C) → text_program.StaysEnded m
+  pub wrong-start-is-silent : {C : Type 0} (m : AnyCollector C) → text_program.StaysEnded m
   -- The text that is defined as the output of `collect` has the model's answers and totals, however the input is cut into pieces.
   pub text-follows-model : text_collect.CollectPrints
   -- As CSV and as JSON too, the rows and totals are the model's, however the input is cut.
@@ -257,7 +257,7 @@ pub record Rows : Type 1 where
   -- A collector that is restored, and is handed the rows that came after its checkpoint, answers each as before.
   pub rows-are-answered-again : history_rows_again.GivenAgain
   -- Then it answers all that comes later as the first collector would have, if nothing comes earlier than that one's latest time.
-  pub later-answers-are-same : history_rows_again.GoesOn
+  pub later-answers-are-same : history_rows_again.RowsGoOn
   -- The same holds for any program whose calls meet the contracts.
   pub contracts-give-recovery : {State : Type 0} (view : State → View) → history_rows_recovered.RecoveredGoesOn view
   -- In the model, each telegram that was opened closes once, in order, with its number of copies, or is still open.
@@ -285,7 +285,7 @@ pub record Journal : Type 0 where
   -- If the front of a file is an archive, all its rows are found.
   pub whole-front-is-found : journal_model.FoundLongest
   -- A start changes no block with rows that it finds, except a torn one, which it mends. Rows after a gap are not found.
-  pub sound-blocks-stay : journal_model.Untouched
+  pub sound-blocks-stay : journal_model.BlocksUntouched
   -- After a start that is not refused, an archive of one file has the counted rows, and then leftovers.
   pub leftovers-are-rows : journal_model.StartCounts
   -- A start changes no byte of such an archive.
@@ -307,7 +307,7 @@ pub record Journal : Type 0 where
   -- Whatever it answers, each row stays in the archive or is put aside.
   pub live-destroys-nothing : journal_model.LiveDestroysNothing
   -- If the rows that lines gave are handed over again after the same earlier lines, the same rows are given again.
-  pub rows-are-given-again : journal_model.RowsAlone
+  pub rows-are-given-again : journal_model.LinesRowsAlone
   -- So leftovers of lines that were on their way at a crash are all taken in.
   pub leftovers-are-taken-in : journal_model.AllTakenIn
   -- The judgement on the last counted block refuses what the model refuses, and else gives the block that the model continues with.
@@ -343,7 +343,7 @@ pub record Archives : Type 0 where
   -- An append that looks at the last block alone does the same as one that looks at the whole archive.
   pub last-block-is-enough : archive_model.AtCursor
   -- Row i of an archive is returned, or the answer is 10 if there are fewer rows.
-  pub rows-are-returned : archive_model.Rows
+  pub rows-are-returned : archive_model.RowsAnswered
   -- A row that is returned has at most 21 bytes, whatever the buffer holds.
   pub rows-are-short : archive_model.RowShort
   -- A check of an archive's blocks in two parts is one check, and finds the first wrong block or the number of rows.
@@ -369,7 +369,7 @@ pub record Archives : Type 0 where
   -- Calls that pack pieces, refused ones anywhere between, write the archive of the rows that remain and name the dropped blocks.
   pub pieces-are-packed : archive_repack_model.PiecesPacked
   -- What is lent to a packer between two pieces is all that the next piece needs.
-  pub packer-is-held : archive_repack_model.Held
+  pub packer-is-held : archive_repack_model.PackingHeld
   -- A second cut at the same row changes nothing.
   pub second-cut-is-same : archive_cut.CutAgain
   -- If the rows that were cut off are appended again, the bytes are the old ones.
@@ -383,7 +383,7 @@ pub record Archives : Type 0 where
   -- Rows that are put into the last block together are added to the archive's rows.
   pub together-is-appended : archive_fill.InArchive
   -- A row that another language reads from an archive can be put into an archive as it is.
-  pub rows-are-put-again : c_archive.GivenAgain
+  pub rows-are-put-again : c_archive.RowGivenAgain
   -- Four numbers hold all that is known between two pieces of a verification.
   pub four-numbers-are-enough : c_pieces.ScanBack
   -- The numbers that a verification in pieces leaves are accepted by its next call.

@@ -114,15 +114,15 @@ pub record Archives : Type 0 where
   -- Each field of an archive block is at the bytes that the papers say.
   pub blocks-are-laid-out : archive_model.Layout
   -- After any appends, reading an archive gives exactly the rows whose append was not refused, in order.
-  pub rows-come-back : archive_model.Run
+  pub rows-come-back : archive_model.WholeRun
   -- An archive that is accepted is byte for byte what is written for its rows.
-  pub archives-are-exact : archive_model.Exact
+  pub archives-are-exact : archive_model.ExactArchive
   -- If some blocks are damaged, salvage keeps all rows of the other blocks, in order, and changes none.
-  pub salvage-keeps-rows : archive_repack_model.Kept
+  pub salvage-keeps-rows : archive_repack_model.RowsKept
   -- If sensors are removed from an archive, exactly the rows of the other sensors remain, in order.
-  pub others-remain : archive_repack_model.Remains
+  pub others-remain : archive_repack_model.OtherRowsRemain
   -- If an archive is cut back to m rows, exactly its first m rows remain.
-  pub first-rows-remain : archive_cut.Remains
+  pub first-rows-remain : archive_cut.FirstRowsRemain
   -- An archive that is verified piece by piece gets the answer that the whole archive gets.
   pub pieces-are-verified : c_pieces.PiecesVerified
   -- The totals of a report are the sums over the rows of all archives that were added.

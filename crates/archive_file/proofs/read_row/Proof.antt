@@ -15,7 +15,7 @@ use Rattle.base_buffers.proofs.Buffer.{resized-whole}
 use Rattle.archive_model.specs.Row.{Row, rowCount, rowIn}
 use Rattle.archive_model.specs.Append.{ReadRow, cellRow}
 use Rattle.archive_model.proofs.Reading.{cell-found, cell-long}
-use Rattle.archive_file.specs.Archive.{Shown, readResult, rowShown}
+use Rattle.archive_file.specs.Archive.{ShownRow, readResult, rowShown}
 use Rattle.archive_file.specs.Private.{rowInBlock}
 use Rattle.archive_file.proofs.Cells.{used-is}
 use Rattle.archive_file.proofs.read_row.Statement.{statement}
@@ -51,7 +51,7 @@ in-block c =
     omega (arith, c .before .before .byte-at .ensures, c .before .if1 .left) in
     ap cellRow (c .cell-at .ensures) ∙ (rw (lt-ltb (a .i) (rowCount (now (a .block))) h))
 
-abbrev shown : tie.After-cell-at → ReadRow → Shown
+abbrev shown : tie.After-cell-at → ReadRow → ShownRow
 shown c a = rowShown a (blockCell (start c .args .i) (now (start c .args .block)))
 
 long : tie.Need-returns-2

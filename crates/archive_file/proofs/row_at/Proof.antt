@@ -12,7 +12,7 @@ use Rattle.block_layout.specs.Block.{cellsPerBlock, blockLength, blockCell}
 use Rattle.base_buffers.proofs.Segments.{part-length, part-ends}
 use Rattle.archive_model.specs.Buffer.{isWhole}
 use Rattle.archive_model.specs.Append.{ReadRow, cellAt}
-use Rattle.archive_file.specs.Archive.{Shown, rowShown}
+use Rattle.archive_file.specs.Archive.{ShownRow, rowShown}
 use Rattle.archive_file.specs.Private.{rowInBlock}
 use Rattle.archive_file.proofs.Calls.{row-size, row-out, row-in}
 use Rattle.archive_file.proofs.row_at.Statement.{statement}
@@ -23,7 +23,7 @@ abbrev start : tie.Else1 → tie.Start
 start c = c .before .before .before
 
 -- an answer with the bytes of its cell
-abbrev shown : tie.Start → ReadRow → Shown
+abbrev shown : tie.Start → ReadRow → ShownRow
 shown c a = rowShown a (cellAt (c .args .i) (now (c .args .buffer)))
 
 size : tie.Need-returns

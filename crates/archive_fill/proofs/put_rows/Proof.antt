@@ -13,7 +13,7 @@ use Rattle.block_layout.specs.Block.{blockLength}
 use Rattle.archive_model.specs.Row.{Row}
 use Rattle.archive_model.specs.Buffer.{maxRows}
 use Rattle.archive_model.specs.Append.{Verdict, Appended, isNext}
-use Rattle.archive_file.specs.Archive.{takenNumber}
+use Rattle.base_refusal.specs.Number.{outcomeNumber}
 use Rattle.archive_file.proofs.Puts.{next-told}
 use Rattle.archive_fill.specs.Fill.{rowLength, rowsGiven, checkRows}
 use Rattle.archive_fill.proofs.Cases.{given-facts, check-valid, put-size, put-other, put-invalid, put-many, put-done, put-none}
@@ -63,7 +63,7 @@ second c = c .before .before .before
 valid : (c : tie.After-enum-told2) → checkRows 0 (rows (first (second c) .before)) .number ≡ 0
 valid c =
     sym (ap (λ (v : Verdict). v .number) (c .before .before .check-rows .ensures))
-    ∙ ap takenNumber (c .enum-told2 .given .1)
+    ∙ ap outcomeNumber (c .enum-told2 .given .1)
 
 -- the returns
 
@@ -91,7 +91,7 @@ invalid c =
     let g = first e .before in
     let why = c .enum-told .given .0 .0 in
     let number =
-    sym (ap takenNumber (c .enum-told .given .1)) ∙ ap (λ (v : Verdict). v .number) (ch .check-rows .ensures) in
+    sym (ap outcomeNumber (c .enum-told .given .1)) ∙ ap (λ (v : Verdict). v .number) (ch .check-rows .ensures) in
     ap (beside (block g)) (ch .check-rows .ensures)
     ∙ put-invalid (block g) (start g .args .n) (times g) (records g)
     (facts (first e)) (next e) (λ z. refused-number why (number ∙ z))

@@ -14,7 +14,7 @@ use Rattle.block_layout.specs.Block.{headerLength, cellsPerBlock, bodyLength, s
 use Rattle.block_layout.proofs.Block.{seal-front}
 use Rattle.archive_model.specs.Row.{rowCell, rowsHeader}
 use Rattle.archive_fill.specs.Fill.{rowsGiven, putRows}
-use Rattle.archive_fill.specs.Private.{Ready}
+use Rattle.archive_fill.specs.Private.{RowsReady}
 use Rattle.archive_fill.proofs.Records.{rows-count}
 use Rattle.archive_fill.proofs.Together.{together, put-together}
 use Rattle.archive_fill.proofs.write_rows.Statement.{statement}
@@ -81,7 +81,7 @@ put-cells-requires c κs =
     let s = start (put-number (cl .before)) in
     (lent (headed cl .begun) _ (end s) (omega arith) (omega (arith, s .pre .few)), s .pre .sized, s .pre .valid)
 
-put-is : (block : List ℕ) (n : ℕ) (times rows : List ℕ) → Ready block n times rows
+put-is : (block : List ℕ) (n : ℕ) (times rows : List ℕ) → RowsReady block n times rows
     → (at end : ℕ) → at ≡ headerLength + cellLength * (n % cellsPerBlock)
     → end ≡ headerLength + cellLength * (n % cellsPerBlock + length times)
     → sealed

@@ -4,7 +4,7 @@ use mathlib.Core.Path.{_≡_, refl, sym, ap, _∙_}
 use Rattle.archive_model.specs.Buffer.{stageFound}
 use Rattle.archive_file.specs.Archive.{stageOf}
 use Rattle.archive_file.specs.declared.Stage.{Stage}
-use Rattle.archive_report_model.specs.Pieces.{closed, closing}
+use Rattle.archive_report_model.specs.Pieces.{tallyAddition, closing}
 use Rattle.archive_report.specs.Report.{reportOf}
 use Rattle.archive_report.specs.Private.{tallyOf}
 use Rattle.archive_report.proofs.close.Statement.{statement}
@@ -12,11 +12,11 @@ use Rattle.archive_report.proofs.close.Tie as tie
 
 -- the stage that an arm is for
 at : (c : tie.Start) (s : Stage) → c .args .t .scan .stage ≡ s
-    → closed (reportOf (c .args .before)) (tallyOf (c .args .t) (c .args .lines)) (stageFound (stageOf s))
+    → tallyAddition (reportOf (c .args .before)) (tallyOf (c .args .t) (c .args .lines)) (stageFound (stageOf s))
     ≡ closing (reportOf (c .args .before)) (tallyOf (c .args .t) (c .args .lines))
 unfolding closing
 at c s e =
-    ap (λ (t : Stage). closed (reportOf (c .args .before))
+    ap (λ (t : Stage). tallyAddition (reportOf (c .args .before))
     (tallyOf (c .args .t) (c .args .lines)) (stageFound (stageOf t)))
     (sym e)
 

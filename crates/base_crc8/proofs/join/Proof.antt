@@ -1,11 +1,11 @@
 -- `base_crc8::join` meets its contract.
 use mathlib.Core.Path.{refl}
-use Rattle.base_crc8.specs.Words.{joinOf}
+use Rattle.base_crc8.specs.Words.{joinWords}
 use Rattle.base_crc8.proofs.join.Statement.{statement}
 use Rattle.base_crc8.proofs.join.Tie as tie
 
 returns : tie.Need-returns
-unfolding joinOf
+unfolding joinWords
 returns c = refl
 
 pub join-spec : {M : Type 1} → statement M

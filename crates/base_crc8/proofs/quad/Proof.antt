@@ -7,7 +7,7 @@ use native.Mathlib.Nat.{add-zero}
 use denote.Ref.{now}
 use lib.ListN.{length, getD, take, drop, length-drop}
 use lib.Seq.{getD-drop}
-use Rattle.base_crc8.specs.Words.{AreBytes, valueOf}
+use Rattle.base_crc8.specs.Words.{EightBits, valueOf}
 use Rattle.base_crc8.proofs.Words.{value-four}
 use borrow.Author.Needs.{needs}
 use Rattle.base_crc8.proofs.quad.Statement.{statement}
@@ -29,10 +29,21 @@ returns c =
     let first = second .before .before in
     let s = first .before .before .before in
     let bs = now (s .args .b) in
-    let bytes : AreBytes bs = λ i. omega (arith, c .before .shared-slice-known5 .given i) in (
-      rw (first .wide .ensures .0, second .wide2 .ensures .0, third .wide3 .ensures .0, c .wide4 .ensures .0)
+    let bytes : EightBits bs = λ i. omega (arith, c .before .shared-slice-known5 .given i) in (
+      rw (
+        first .u64-of-byte .ensures .0,
+        second .u64-of-byte2 .ensures .0,
+        third .u64-of-byte3 .ensures .0,
+        c .u64-of-byte4 .ensures .0,
+      )
           (four-at bs (s .args .from) (s .pre)),
-      omega (arith, first .wide .ensures .1, second .wide2 .ensures .1, third .wide3 .ensures .1, c .wide4 .ensures .1),
+      omega (
+        arith,
+        first .u64-of-byte .ensures .1,
+        second .u64-of-byte2 .ensures .1,
+        third .u64-of-byte3 .ensures .1,
+        c .u64-of-byte4 .ensures .1,
+      ),
       bytes,
     )
 

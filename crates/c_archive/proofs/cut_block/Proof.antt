@@ -4,7 +4,7 @@ use Rattle.c_archive.proofs.cut_block.Statement.{statement}
 use Rattle.c_archive.proofs.cut_block.Tie as tie
 
 returns : tie.Need-returns
-returns c = rw (c .taken-number .ensures) (c .before .before .before .cut-block .ensures)
+returns c = rw (c .outcome-number .ensures) (c .before .before .before .cut-block .ensures)
 
 pub cut-block-spec : {M : Type 1} → statement M
 cut-block-spec =

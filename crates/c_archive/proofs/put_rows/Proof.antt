@@ -21,16 +21,16 @@ not-placed : tie.Need-returns
 not-placed c =
     let h = c .before in
     let f = filled h in
-    put-not (h .before .taken-number .result) (f .put-rows .result .position)
-    (now (start f .args .position)) (h .before .taken-number .ensures) (f .put-rows .ensures)
+    put-not (h .before .outcome-number .result) (f .put-rows .result .position)
+    (now (start f .args .position)) (h .before .outcome-number .ensures) (f .put-rows .ensures)
     (sym (h .has-place .ensures) ∙ not-true _ (c .if1 .taken))
 
 placed : tie.Need-returns-2
 placed c =
     let h = c .before in
     let f = filled h in
-    put-at (h .before .taken-number .result) (f .put-rows .result .position)
-    (now (start f .args .position)) (h .before .taken-number .ensures) (f .put-rows .ensures)
+    put-at (h .before .outcome-number .result) (f .put-rows .result .position)
+    (now (start f .args .position)) (h .before .outcome-number .ensures) (f .put-rows .ensures)
     (sym (h .has-place .ensures) ∙ not-false _ (c .if1 .left))
 
 pub put-rows-spec : {M : Type 1} → statement M

@@ -8,7 +8,7 @@ use Rattle.base_buffers.proofs.Segments.{Writing, packed, begin, begun-length, 
 use Rattle.base_buffers.specs.Buffer.{resized}
 use Rattle.block_layout.specs.Cell.{cellCapacity}
 use Rattle.archive_model.specs.Append.{ReadRow, rowAtOf}
-use Rattle.archive_file.specs.Archive.{foundNumber, Shown}
+use Rattle.archive_file.specs.Archive.{foundNumber, ShownRow}
 use Rattle.archive_fill.specs.Fill.{rowLength}
 use Rattle.c_archive.proofs.Calls.{row-other, row-not, row-done, row-are}
 use Rattle.c_archive.proofs.row_at.Statement.{statement}
@@ -30,7 +30,7 @@ abbrev expected : tie.After-row-at → ReadRow
 expected c = rowAtOf (now (start c .args .buffer)) (start c .args .i)
 
 number : (c : tie.After-found-number) → c .found-number .result ≡ expected (c .before) .number
-number c = c .found-number .ensures ∙ ap (λ (s : Shown). s .number) (c .before .row-at .ensures)
+number c = c .found-number .ensures ∙ ap (λ (s : ShownRow). s .number) (c .before .row-at .ensures)
 
 refused : tie.Need-returns-2
 refused c =

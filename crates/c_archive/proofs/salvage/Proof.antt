@@ -9,7 +9,7 @@ use Rattle.c_archive.proofs.salvage.Tie as tie
 abbrev entry : tie.After-slice-known2 → tie.Start
 entry c = c .before .before .before
 
-abbrev salvaged : tie.After-taken-number → tie.After-salvage
+abbrev salvaged : tie.After-outcome-number → tie.After-salvage
 salvaged c = let s = c .before .before in s .before .before .before
 
 abbrev start : tie.After-salvage → tie.Start
@@ -19,16 +19,16 @@ refused : tie.Need-returns
 refused c =
     let t = c .before in
     let s = salvaged t in
-    salvage-not (t .taken-number .result) (now (start s .args .dropped))
-    (now (start s .args .rows)) (t .taken-number .ensures) (s .salvage .ensures)
+    salvage-not (t .outcome-number .result) (now (start s .args .dropped))
+    (now (start s .args .rows)) (t .outcome-number .ensures) (s .salvage .ensures)
     (c .if1 .taken)
 
 done : tie.Need-returns-2
 done c =
     let t = c .before in
     let s = salvaged t in
-    salvage-done (t .taken-number .result) (now (start s .args .dropped))
-    (now (start s .args .rows)) (t .taken-number .ensures) (s .salvage .ensures)
+    salvage-done (t .outcome-number .result) (now (start s .args .dropped))
+    (now (start s .args .rows)) (t .outcome-number .ensures) (s .salvage .ensures)
     (c .if1 .left)
 
 pub salvage-spec : {M : Type 1} → statement M

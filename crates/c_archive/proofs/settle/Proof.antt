@@ -5,7 +5,7 @@ use Prim.Native.Nat.{ℕ}
 use borrow.Author.Needs.{needs}
 use denote.Ref.{now}
 use Rattle.base_refusal.specs.declared.Refusal.the-variants.{Mismatch}
-use Rattle.archive_file.specs.declared.Outcome.{Outcome}
+use Rattle.archive_file.specs.declared.ArchiveOutcome.{ArchiveOutcome}
 use Rattle.archive_file.specs.Archive.{appendResult}
 use Rattle.c_archive.specs.Calls.{appendCall}
 use Rattle.c_archive.proofs.Calls.{append-not}
@@ -13,10 +13,10 @@ use Rattle.c_archive.proofs.settle.Statement.{statement}
 use Rattle.c_archive.proofs.settle.Tie as tie
 
 -- what an outcome shows
-told : (c : tie.Start) (o : Outcome) (buffer : List ℕ) → c .args .outcome ≡ o
+told : (c : tie.Start) (o : ArchiveOutcome) (buffer : List ℕ) → c .args .outcome ≡ o
     → appendCall (appendResult o buffer) (now (c .args .position))
     ≡ appendCall (appendResult (c .args .outcome) buffer) (now (c .args .position))
-told c o buffer e = ap (λ (x : Outcome). appendCall (appendResult x buffer) (now (c .args .position))) (sym e)
+told c o buffer e = ap (λ (x : ArchiveOutcome). appendCall (appendResult x buffer) (now (c .args .position))) (sym e)
 
 done : tie.Need-returns
 done c buffer = told (c .before .before) _ buffer (c .enum-told .given .1)

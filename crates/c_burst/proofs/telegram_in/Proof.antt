@@ -13,16 +13,16 @@ returns : tie.Need-returns
 returns c =
     let w = c .before .before in
     rw (lt-ltb 21 (getD (now (w .before .before .before .args .frame)) 0 0)
-    (omega (arith, c .before .if1 .taken, w .wide .ensures .0)))
+    (omega (arith, c .before .if1 .taken, w .usize-of-byte .ensures .0)))
 
 returns-2 : tie.Need-returns-2
 returns-2 c =
     let w = c .before .before in
-    let n : 1 + w .wide .result - 1 ≡ getD (now (w .before .before .before .args .frame)) 0 0 =
-    omega (arith, w .wide .ensures .0) in
+    let n : 1 + w .usize-of-byte .result - 1 ≡ getD (now (w .before .before .before .args .frame)) 0 0 =
+    omega (arith, w .usize-of-byte .ensures .0) in
     rw (
       le-ltb 21 (getD (now (w .before .before .before .args .frame)) 0 0)
-          (omega (arith, c .before .if1 .left, w .wide .ensures .0)),
+          (omega (arith, c .before .if1 .left, w .usize-of-byte .ensures .0)),
       n,
     )
 

@@ -13,7 +13,7 @@ returns c =
     let done = c .before .before .before in
     let read = done .before .before in
     let a = read .before .before .args in
-    rw (c .saved-number .ensures)
+    rw (c .outcome-number .ensures)
     (done .checkpoint-at .ensures
     ∙ ap (λ (s : Summary).
     checkpointOf (viewIn (columns (now (a .times)) (now (a .lengths)) (now (a .bytes)) (now (a .copies))) s)

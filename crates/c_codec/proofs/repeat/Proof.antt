@@ -7,7 +7,7 @@ use denote.Ref.{now}
 use Rattle.base_buffers.proofs.Buffer.{overwritten-fits}
 use Rattle.radio_telegram.specs.Repeater.{RepeatResult, repeatResult}
 use Rattle.c_layout.specs.Frame.{frameLength}
-use Rattle.c_codec.specs.Calls.{sentBytes}
+use Rattle.c_codec.specs.Calls.{sentFrameBytes}
 use Rattle.c_codec.proofs.Calls.{repeat-other, repeat-done, sent-len, answered-not, answered-is}
 use Rattle.c_codec.proofs.repeat.Statement.{statement}
 use Rattle.c_codec.proofs.repeat.Tie as tie
@@ -31,7 +31,7 @@ refused c =
     let n = c .before in
     let a = start n .args in
     answered-not (n .checked-number .result) (expected n .number) []
-    (sentBytes (expected n .sent)) (now (a .sent)) (number n) (c .if2 .taken)
+    (sentFrameBytes (expected n .sent)) (now (a .sent)) (number n) (c .if2 .taken)
     ∙ repeat-done (a .setting) (now (a .bytes)) (now (a .sent)) (n .before .before .if1 .left)
 
 cast-put-frame : tie.Need-cast-put-frame
@@ -52,9 +52,9 @@ sent c =
     let long = n .before .before .if1 .left in
     let written =
     p .put-frame .ensures ∙ overwritten-fits frameLength _ (now (a .sent)) long
-    ∙ ap (λ (r : RepeatResult). sentBytes (r .sent)) (n .before .repeat .ensures) in
+    ∙ ap (λ (r : RepeatResult). sentFrameBytes (r .sent)) (n .before .repeat .ensures) in
     answered-is (n .checked-number .result) (expected n .number) _
-    (sentBytes (expected n .sent)) (now (a .sent)) (number n) (l .if2 .left) written
+    (sentFrameBytes (expected n .sent)) (now (a .sent)) (number n) (l .if2 .left) written
     ∙ repeat-done (a .setting) (now (a .bytes)) (now (a .sent)) long
 
 pub repeat-spec : {M : Type 1} → statement M

@@ -68,7 +68,7 @@ unfolding viewOf
 returns-3 c =
     let o = c .before .before in
     let s = start (accepted o) in
-    rw (c .wide .ensures)
+    rw (c .u64-of-u16 .ensures .0)
     (copies-shown _ _ _ _ (heard-open (state s) (s .args .entry) (passed (accepted o)) (o .if2 .left)))
 
 pub copies-of-spec : {M : Type 1} → statement M

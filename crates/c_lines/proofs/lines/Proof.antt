@@ -10,7 +10,7 @@ use Rattle.collector_state.specs.declared.Summary.{Summary}
 use Rattle.collector_state.specs.Collector.{viewIn}
 use Rattle.collector_state.specs.Admission.{Tested}
 use Rattle.c_collector.specs.State.{Arrays, arrays, columnsAt, stateAt}
-use Rattle.c_lines.specs.Calls.{isSized}
+use Rattle.c_lines.specs.Calls.{areRowsSized}
 use borrow.Author.Needs.{needs}
 use Rattle.c_lines.proofs.lines.Statement.{statement}
 use Rattle.c_lines.proofs.lines.Tie as tie
@@ -38,7 +38,8 @@ acceptable-here c = sym (c .before .is-acceptable .ensures _) ∙ not-false _ (c
 abbrev entry2 : tie.Else2 → tie.Start
 entry2 c = entry1 (c .before .before)
 
-sized : (c : tie.Else2) → isSized (length (now (entry2 c .args .moments))) (length (now (entry2 c .args .rows))) ≡ true
+sized : (c : tie.Else2)
+    → areRowsSized (length (now (entry2 c .args .moments))) (length (now (entry2 c .args .rows))) ≡ true
 sized c = sym (c .before .is-sized .ensures) ∙ not-false _ (c .if2 .left)
 
 -- no call is refused after the third

@@ -51,11 +51,11 @@ use Rattle.collector_state.specs.declared.Summary.{Summary}
 use Rattle.collector_state.specs.Collector.{Columns, columns, columnsOf}
 use Rattle.collector_burst.specs.declared.Reception.{Reception}
 use Rattle.collector_burst.specs.declared.Reply.{Reply}
-use Rattle.collector_burst.specs.declared.Handed.{Handed}
+use Rattle.base_refusal.specs.declared.Outcome.{Outcome}
 use Rattle.collector_burst.specs.declared.Plan.{Plan}
 use Rattle.collector_burst.specs.declared.Bursted.{Bursted}
 use Rattle.collector_burst.specs.Records.{Bursts}
-use Rattle.collector_burst.specs.Private.{Delivered, Planned, Finished}
+use Rattle.collector_burst.specs.Private.{Delivered, Planned, BurstFinished}
 use Rattle.collector_state.proofs.Counts.{same}
 use Rattle.collector_state.proofs.Collector as C
 use Rattle.collector_state.proofs.Collector.Laws as C′
@@ -63,8 +63,8 @@ use Rattle.collector_state.proofs.Summary as S
 use Rattle.collector_state.proofs.Summary.Laws as S′
 use Rattle.collector_burst.proofs.Reception as R
 use Rattle.collector_burst.proofs.Reply as Y
-use Rattle.collector_burst.proofs.Handed as E
-use Rattle.collector_burst.proofs.Handed.Laws as E′
+use Rattle.base_refusal.proofs.Outcome as E
+use Rattle.base_refusal.proofs.Outcome.Laws as E′
 use Rattle.collector_burst.proofs.Plan as P
 use Rattle.collector_burst.proofs.Plan.Laws as P′
 use Rattle.collector_burst.proofs.Bursted as B
@@ -144,8 +144,8 @@ ofSummary = LL.val S.the-type S′.the-laws
 abbrev ofPlan : Plan → Val
 ofPlan = LL.val P.the-type P′.the-laws
 
-abbrev ofHanded : Handed → Val
-ofHanded = EL.val E.the-type E′.the-laws
+abbrev ofOutcome : Outcome → Val
+ofOutcome = EL.val E.the-type E′.the-laws
 
 abbrev IsCollector : Collector → Type 0
 IsCollector c = Is C.the-row c (ofCollector c ∷ [])
@@ -159,8 +159,8 @@ IsPlan p = Is P.the-row p (ofPlan p ∷ [])
 abbrev IsLevel : ℕ → Type 0
 IsLevel k = Is u8 k (vint w8 k ∷ [])
 
-abbrev IsHanded : Handed → Type 0
-IsHanded h = Is E.the-row h (ofHanded h ∷ [])
+abbrev IsOutcome : Outcome → Type 0
+IsOutcome h = Is E.the-row h (ofOutcome h ∷ [])
 
 abbrev stayed : Stays (f.ended .signature .params) (f.ended .kept)
 stayed = (
@@ -235,7 +235,7 @@ module _ {M : Type 1} (𝓤 : URA M) (H : Heap 𝓤) (A : Atoms 𝓤) (mem : Mem
       exE 𝓤 _ (λ ws. snd∗ 𝓤 (sem 𝓤 H A (lasts prep.ended tt (c, (g, (n, (m, tt)))) ws)) (fact 𝓤 (Planned c g n m p)))
 
   -- ---- `finish`
-  abbrev to-finish : Columns → Summary → Handed → ToFinish .Ghost
+  abbrev to-finish : Columns → Summary → Outcome → ToFinish .Ghost
   to-finish a s h = (
     (
       tt,
@@ -244,14 +244,14 @@ module _ {M : Type 1} (𝓤 : URA M) (H : Heap 𝓤) (A : Atoms 𝓤) (mem : Mem
       (a .times, (a .lens, (a .bytes, (a .copies, (s, (h, tt)))))),
       (
         words (a .times),
-        (octets (a .lens), (octets (a .bytes), (halves (a .copies), (ofSummary s ∷ [], (ofHanded h ∷ [], tt))))),
+        (octets (a .lens), (octets (a .bytes), (halves (a .copies), (ofSummary s ∷ [], (ofOutcome h ∷ [], tt))))),
       ),
     ),
     tt,
   )
 
-  goes-finish : (W : Given 𝓤 H A) (a : Columns) (s : Summary) (h : Handed) → IsTs (a .times)
-      → IsLs (a .lens) → IsEs (a .bytes) → IsCs (a .copies) → IsSummary s → IsHanded h
+  goes-finish : (W : Given 𝓤 H A) (a : Columns) (s : Summary) (h : Outcome) → IsTs (a .times)
+      → IsLs (a .lens) → IsEs (a .bytes) → IsCs (a .copies) → IsSummary s → IsOutcome h
       → ent 𝓤 (emp 𝓤) (ToFinish .pre (to-finish a s h))
   goes-finish W a s h it il ie ic is ih =
       qed W [] ∵ nothing ! $
@@ -263,15 +263,15 @@ module _ {M : Type 1} (𝓤 : URA M) (H : Heap 𝓤) (A : Atoms 𝓤) (mem : Mem
       owned ! Ts (Is Ts) (array-makes 𝓤 H A W u64 (uint-makes 𝓤 H A W w64) 64) (a .times) _ it $
       fjoin ! $ nothing ! $ join ! $ frame ! $ done !
 
-  finished-of : (a : Columns) (s : Summary) (h : Handed) (r : Bursted)
+  finished-of : (a : Columns) (s : Summary) (h : Outcome) (r : Bursted)
       → ent 𝓤
       (ensured 𝓤 H A fin.ended (fin.clauses 𝓤 H A mem run) tt
       (a .times, (a .lens, (a .bytes, (a .copies, (s, (h, tt)))))) tt r)
-      (fact 𝓤 (Finished a s h r))
+      (fact 𝓤 (BurstFinished a s h r))
   finished-of a s h r =
       exE 𝓤 _
       (λ ws. snd∗ 𝓤 (sem 𝓤 H A (lasts fin.ended tt (a .times, (a .lens, (a .bytes, (a .copies, (s, (h, tt)))))) ws))
-      (fact 𝓤 (Finished a s h r)))
+      (fact 𝓤 (BurstFinished a s h r)))
 
   -- ---- `deliver`: the four arrays at lifetimes that are made for the call, the two lists at their own
   module _ (α₀ α₁ α₂ α₃ : ℕ) (κ₀ κ₁ : Lft) (q₀ q₁ : Share) (b₀ b₁ b₂ b₃ : ℕ) (δ₀ δ₁ δ₂ δ₃ : GName) (a : Columns)
@@ -714,9 +714,9 @@ module _ {M : Type 1} (𝓤 : URA M) (H : Heap 𝓤) (A : Atoms 𝓤) (W : Given
         (id⊢ 𝓤 _) $
         await ! tt $ pick ! (λ r.
         split ! $ move ! (1 ∷ []) $
-        use1 W (raw (fact 𝓤 (Finished (last-in ws) s (p .answer) r)))
+        use1 W (raw (fact 𝓤 (BurstFinished (last-in ws) s (p .answer) r)))
         (finished-of 𝓤 H A mem run (last-in ws) s (p .answer) r) $
-        heard ! (Finished (last-in ws) s (p .answer) r) (λ finished.
+        heard ! (BurstFinished (last-in ws) s (p .answer) r) (λ finished.
         split ! $ drop ! $ peeks ! B.the-row (Is B.the-row) (shows 𝓤 H A B.the-row) r (w₂ ∷ []) (λ ib.
         -- [the result; copies; the lists' tokens; entries; lens; times; the last second list; true; the first list; the locals, at 9]
         land ! (from ! (stop !)) (init ! (low 9 0) refl (LL.lawful B.the-type B′.the-laws 𝓤 H A W .typed r _ ib .0)) $

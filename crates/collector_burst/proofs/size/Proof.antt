@@ -15,8 +15,11 @@ returns c =
 
 returns-2 : tie.Need-returns-2
 returns-2 c =
-    let len = c .before .before .args .len in
-    (c .before .wide .ensures ∙ sym (ap (λ (b : Bool). cond b 0 len) (le-ltb maxLength len (omega arith))), omega arith)
+    let len = c .before .before .args .len in (
+      c .before .usize-of-byte .ensures .0
+          ∙ sym (ap (λ (b : Bool). cond b 0 len) (le-ltb maxLength len (omega arith))),
+      omega arith,
+    )
 
 pub size-spec : {M : Type 1} → statement M
 size-spec = tie.close (tie.spec (λ c κs. search needs) returns returns-2)

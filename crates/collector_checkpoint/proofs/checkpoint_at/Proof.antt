@@ -7,7 +7,7 @@ use denote.Ref.{now}
 use Rattle.collector_model.specs.View.{View}
 use Rattle.collector_model.specs.Acceptable.{acceptable}
 use Rattle.collector_model.proofs.Returns.{checkpoint-unacceptable, checkpoint-short, checkpoint-written}
-use Rattle.collector_checkpoint.specs.declared.Saved.the-variants as saved
+use Rattle.base_refusal.specs.declared.Outcome.the-variants as outcome
 use Rattle.collector_state.specs.Collector.{columns, viewIn}
 use Rattle.collector_checkpoint.specs.Checkpoint.{checkpointResult}
 use Rattle.collector_checkpoint.proofs.Writing.{writable-state}
@@ -40,7 +40,7 @@ returns-3 : tie.Need-returns-3
 returns-3 c =
     let put = c .before .before in
     let room = put .before .before in
-    ap (checkpointResult saved.Done) (put .put-image .ensures)
+    ap (checkpointResult outcome.Done) (put .put-image .ensures)
     ∙ checkpoint-written _ (passed (room .before)) _ (room .if2 .left)
 
 pub checkpoint-at-spec : {M : Type 1} → statement M

@@ -12,7 +12,7 @@ use Rattle.archive_fill.specs.Claims.{withBlock}
 use Rattle.journal_model.specs.Disk.{wholeBlocks}
 use Rattle.journal_calls.specs.Rows.{Compared, compareCall}
 use Rattle.journal_state.specs.State.{Kept, kept, stateLength, stateBytes}
-use Rattle.journal_state.specs.Lawful.{lawful}
+use Rattle.journal_state.specs.Lawful.{isLawfulState}
 use Rattle.journal_state.specs.Calls.{writeOf}
 use Rattle.journal_batch.specs.Batch.{Filled, filledOf, Commit, isNew, commitOf}
 use Rattle.journal_batch.proofs.Cases as cases
@@ -166,8 +166,8 @@ is-written : (c : tie.After-write) → record { number = c .write .result; outpu
 is-written c = c .write .ensures
 
 law-as : (c : tie.After-write)
-    → lawful (next (said c) (filled (said c) .block)) ≡ lawful (next (said c) (at-fill c .fill .last .0))
-law-as c = ap (λ (b : List ℕ). lawful (next (said c) b)) (sym (block-is (at-fill c)))
+    → isLawfulState (next (said c) (filled (said c) .block)) ≡ isLawfulState (next (said c) (at-fill c .fill .last .0))
+law-as c = ap (λ (b : List ℕ). isLawfulState (next (said c) b)) (sym (block-is (at-fill c)))
 
 unlawful : tie.Need-returns-5
 unlawful c =

@@ -7,7 +7,7 @@ use denote.Ref.{now}
 use lib.ListN.{length}
 use Rattle.base_buffers.proofs.Buffer.{resized-whole}
 use Rattle.block_layout.specs.Block.{blockLength}
-use Rattle.journal_batch.specs.Batch.{Filled, putOf}
+use Rattle.journal_batch.specs.Batch.{Filled, batchPutOf}
 use Rattle.journal_batch.proofs.Cases.{fill-none, fill-blank, fill-behind}
 use Rattle.journal_batch.proofs.fill.Statement.{statement}
 use Rattle.journal_batch.proofs.fill.Tie as tie
@@ -49,7 +49,7 @@ blank c =
     let e = t .before in
     let s = start (e .before) in
     let a = s .args in
-    c .put .ensures ∙ ap (λ (b : List ℕ). putOf b (a .count) (now (a .times)) (now (a .records))) (s .pre)
+    c .put .ensures ∙ ap (λ (b : List ℕ). batchPutOf b (a .count) (now (a .times)) (now (a .records))) (s .pre)
     ∙ fill-blank (a .count) (now (a .times)) (now (a .records)) (now (a .last)) (e .if1 .left) (t .if2 .taken)
 
 behind : tie.Need-returns-3
@@ -60,7 +60,7 @@ behind c =
     let s = start (e .before) in
     let a = s .args in
     c .put2 .ensures
-    ∙ ap (λ (b : List ℕ). putOf b (a .count) (now (a .times)) (now (a .records)))
+    ∙ ap (λ (b : List ℕ). batchPutOf b (a .count) (now (a .times)) (now (a .records)))
     (w .put-bytes2 .ensures ∙ resized-whole _ (now (a .last)) (second-length (w .before)))
     ∙ fill-behind (a .count) (now (a .times)) (now (a .records)) (now (a .last)) (e .if1 .left) (t .if2 .left)
 

@@ -3,7 +3,7 @@ use Prim.Native.Nat.{ℕ}
 use mathlib.Core.Path.{ap, _∙_}
 use borrow.Author.Needs.{needs}
 use denote.Ref.{now}
-use Rattle.archive_file.specs.Archive.{takenNumber}
+use Rattle.base_refusal.specs.Number.{outcomeNumber}
 use Rattle.journal_batch.specs.Batch.{Filled}
 use Rattle.journal_batch.proofs.Cases.{put-as}
 use Rattle.journal_batch.proofs.put.Statement.{statement}
@@ -15,9 +15,9 @@ returns c =
     let k = p .before .before in
     let a = k .before .before .args in
     let r = p .put-rows .result in
-    ap (λ (n : ℕ). record { number = n; block = p .put-rows .last .0 }) (c .taken-number .ensures)
+    ap (λ (n : ℕ). record { number = n; block = p .put-rows .last .0 }) (c .outcome-number .ensures)
     ∙ put-as (a .count) (now (a .times)) (now (a .records)) (now (a .block))
-    (record { number = takenNumber (r .answer); position = r .position; buffer = p .put-rows .last .0 })
+    (record { number = outcomeNumber (r .answer); position = r .position; buffer = p .put-rows .last .0 })
     (p .put-rows .ensures)
 
 pub put-spec : {M : Type 1} → statement M

@@ -13,7 +13,7 @@ use Rattle.base_buffers.specs.Buffer.{part}
 use Rattle.block_layout.specs.Block.{blockLength}
 use Rattle.collector_model.specs.Image.{imageLength}
 use Rattle.journal_state.specs.State.{Kept, kept, maxName, oldLength, numbersIn, readState}
-use Rattle.journal_state.specs.Lawful.{lawful, isPlain}
+use Rattle.journal_state.specs.Lawful.{isLawfulState, isPlain}
 use Rattle.journal_state.specs.Private.{Sized}
 use Rattle.journal_state.proofs.Files as files
 use Rattle.journal_state.proofs.is_state.Statement.{statement}
@@ -67,9 +67,9 @@ is-lawful-requires c κs =
 abbrev first : tie.After-is-lawful → tie.Else1
 first c = lending (c .before)
 
-law-told : (c : tie.After-is-lawful) → c .is-lawful .result ≡ lawful (readState (now (start
+law-told : (c : tie.After-is-lawful) → c .is-lawful .result ≡ isLawfulState (readState (now (start
     (first c .before) .args .bytes)))
-law-told c = c .is-lawful .ensures ∙ ap lawful (same (start (first c .before)))
+law-told c = c .is-lawful .ensures ∙ ap isLawfulState (same (start (first c .before)))
 
 unlawful : tie.Need-returns-2
 unlawful c =

@@ -4,7 +4,7 @@ use mathlib.Core.Bool.{true, false, and-false}
 use borrow.Author.Needs.{needs}
 use borrow.Author.Tests.{not-true, not-false, eq-eqb, ne-eqb}
 use Rattle.plan_slots.specs.Plan.{isDuration}
-use Rattle.plan_rules.specs.Rules.{isKnown, isLawfulBy}
+use Rattle.plan_rules.specs.Rules.{isRuleAndLevel, isLawfulBy}
 use Rattle.plan_rules.proofs.Known.{known}
 use Rattle.plan_rules.proofs.is_lawful_by.Statement.{statement}
 use Rattle.plan_rules.proofs.is_lawful_by.Tie as tie
@@ -25,7 +25,7 @@ returns c =
 abbrev start : tie.Else2 → tie.Start
 start c = c .before .before .before
 
-named : (c : tie.Else2) → isKnown (start c .args .rule) (start c .args .level) ≡ true
+named : (c : tie.Else2) → isRuleAndLevel (start c .args .rule) (start c .args .level) ≡ true
 named c = sym (c .before .is-known .ensures) ∙ not-false _ (c .if2 .left)
 
 timed : (c : tie.Else2) → isDuration (start c .args .duration) ≡ true

@@ -5,7 +5,7 @@ use native.Mathlib.Omega.{arith}
 use lib.ListN.{length}
 use borrow.Author.Needs.{needs}
 use borrow.Author.Tests.{eq-eqb, ne-eqb, not-true, not-false}
-use Rattle.plan_site.specs.Bytes.{Holds}
+use Rattle.plan_site.specs.Bytes.{HoldsRepeaters}
 use Rattle.plan_site.proofs.Answers.{too-many, out-of-range, unlawful, lawful-pairs}
 use Rattle.plan_site.proofs.Read.{enough}
 use Rattle.plan_site.proofs.check_bytes.Statement.{statement}
@@ -15,7 +15,7 @@ use Rattle.plan_site.proofs.check_bytes.Tie as tie
 abbrev start : tie.Else2 → tie.Start
 start c = c .before .before .before
 
-holds : (c : tie.Else2) → Holds (length (start c .args .bytes .now) / 9) (start c .args .bytes .now)
+holds : (c : tie.Else2) → HoldsRepeaters (length (start c .args .bytes .now) / 9) (start c .args .bytes .now)
 holds c = record { few = c .if2 .left; whole = omega arith }
 
 returns : tie.Need-returns

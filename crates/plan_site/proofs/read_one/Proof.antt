@@ -10,7 +10,12 @@ returns c =
     let level = third .before .before in
     let second = level .before .before in
     let first = second .before .before in
-    simp (first .wide .ensures .0, second .wide2 .ensures .0, third .wide3 .ensures .0, fourth .wide4 .ensures .0)
+    simp (
+      first .u32-of-byte .ensures .0,
+      second .u32-of-byte2 .ensures .0,
+      third .u32-of-byte3 .ensures .0,
+      fourth .u32-of-byte4 .ensures .0,
+    )
 
 pub read-one-spec : {M : Type 1} → statement M
 read-one-spec =

@@ -5,14 +5,14 @@ use mathlib.Core.List.{List}
 use Prim.Native.Nat.{ℕ, _-_, _≤_}
 use native.Mathlib.Omega.{arith}
 use borrow.Author.Needs.{needs}
-use Rattle.radio_erp1.specs.Private.{Agrees}
+use Rattle.radio_erp1.specs.Private.{SameBytes}
 use Rattle.radio_erp1.proofs.Blocks.{agrees-none, agrees-next}
 use Rattle.radio_erp1.proofs.agree_four.Statement.{statement}
 use Rattle.radio_erp1.proofs.agree_four.Tie as tie
 
 record Comparing (a b : List ℕ) (from : ℕ) (all : Bool) (k : ℕ) : Type 0 where
   few : k ≤ 4
-  passed : Agrees a b from k all
+  passed : SameBytes a b from k all
 
 abbrev Inv-loop : tie.InvT-loop
 Inv-loop a b from all₀ k₀ all k = Comparing a b from all k

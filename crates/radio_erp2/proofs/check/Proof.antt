@@ -18,15 +18,16 @@ use Rattle.radio_erp2.proofs.check.Tie as tie
 
 -- ---- the list, and what is known of it
 
-abbrev text : tie.After-wide → List ℕ
+abbrev text : tie.After-usize-of-byte → List ℕ
 text c =
     let some = c .before .before in
     now (some .before .before .args .s)
 
-l-is : (c : tie.After-wide) → c .wide .result ≡ lengthByte (text c)
-l-is c = c .wide .ensures .0
+l-is : (c : tie.After-usize-of-byte) → c .usize-of-byte .result ≡ lengthByte (text c)
+l-is c = c .usize-of-byte .ensures .0
 
-last-is : (c : tie.After-wide) → getD (text c) (c .wide .result) 0 ≡ getD (text c) (lengthByte (text c)) 0
+last-is : (c : tie.After-usize-of-byte)
+    → getD (text c) (c .usize-of-byte .result) 0 ≡ getD (text c) (lengthByte (text c)) 0
 last-is c = ap (λ (x : ℕ). getD (text c) x 0) (l-is c)
 
 some : (c : tie.Else2) → lengthByte (text (c .before)) ≡ 0 → ⊥
@@ -36,7 +37,7 @@ long : (c : tie.Else3) → length (text (c .before .before)) ≡ 1 + lengthByte 
 long c = c .if3 .left ∙ ap (λ (x : ℕ). 1 + x) (l-is (c .before .before))
 
 -- of a long form
-abbrev measured : tie.Else4 → tie.After-wide
+abbrev measured : tie.Else4 → tie.After-usize-of-byte
 measured c = c .before .before .before
 
 high : (c : tie.Else4) → 6 < lengthByte (text (measured c))

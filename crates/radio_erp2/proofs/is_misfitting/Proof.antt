@@ -42,7 +42,8 @@ returns-2 : tie.Need-returns-2
 returns-2 c =
     let short = c .before in
     let sized = short .before .before .before in
-    rw (size-is sized, c .wide .ensures .0) (short-misfit (telegram sized) (ap not (ne-eqb _ _ (short .if2 .taken))))
+    rw (size-is sized, c .usize-of-byte .ensures .0)
+    (short-misfit (telegram sized) (ap not (ne-eqb _ _ (short .if2 .taken))))
 
 returns-3 : tie.Need-returns-3
 returns-3 c =

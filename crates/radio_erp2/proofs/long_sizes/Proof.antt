@@ -12,7 +12,7 @@ returns c =
     let extension = subtype .before .before in
     rw (
       c .if-set4 .ensures,
-      announced .wide .ensures .0,
+      announced .usize-of-byte .ensures .0,
       destination .if-set3 .ensures,
       originator .originator-size .ensures,
       subtype .if-set2 .ensures,

@@ -9,7 +9,7 @@ use Rattle.base_buffers.proofs.Segments.{Writing, packed, begin, lend, lent, wi
 use Rattle.radio_erp2_model.specs.declared.Telegram.{Telegram}
 use Rattle.radio_erp2_model.specs.declared.Sizes.{Sizes}
 use Rattle.radio_erp2_model.specs.Sizes.{overhead}
-use Rattle.radio_erp2.specs.Private.{headBytes, idBytes, dataBytes}
+use Rattle.radio_erp2.specs.Private.{beforeIds, idBytes, dataBytes}
 use Rattle.radio_erp2.proofs.Rows.{row-is, plain-is, sealed-is}
 use Rattle.radio_erp2.proofs.put_row.Statement.{statement}
 use Rattle.radio_erp2.proofs.put_row.Tie as tie
@@ -54,7 +54,7 @@ abbrev step1 : (c : tie.After-put-head) → Writing (idsAt (start c .args .z))
 step1 c =
     let a = start c .args in
     packed
-    (lend (begin (now (a .out))) _ (headBytes (a .t) (a .z) (size c))
+    (lend (begin (now (a .out))) _ (beforeIds (a .t) (a .z) (size c))
     (idsAt (a .z)) (c .put-head .ensures) (c .put-head .kept .0) (omega arith)
     (omega (arith, start c .pre .room)))
 

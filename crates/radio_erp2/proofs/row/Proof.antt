@@ -8,7 +8,7 @@ use Rattle.base_lists.specs.Lists.{padded}
 use Rattle.base_buffers.specs.Buffer.{part}
 use Rattle.block_layout.specs.BigEndian.{unbe}
 use Rattle.base_buffers.proofs.Segments.{part-ends}
-use Rattle.radio_erp2_model.specs.Header.{headerOf}
+use Rattle.radio_erp2_model.specs.Header.{headerFields}
 use Rattle.radio_erp2_model.specs.Sizes.{extensionAt, subtypeAt, originatorAt, destinationAt, payloadAt}
 use Rattle.radio_erp2.proofs.Parts.{take-short, part-short}
 use borrow.Author.Needs.{needs}
@@ -51,8 +51,9 @@ returns c =
     let a = first .args in
     let s = now (a .s) in
     let z = a .z in
-    let h : header .header-of .result ≡ headerOf (unbe (part 1 (z .header) s))
-    = header .header-of .ensures ∙ ap headerOf (header .before .small .ensures ∙ ap unbe (part-ends 1 (z .header) s)) in
+    let h : header .header-of .result ≡ headerFields (unbe (part 1 (z .header) s))
+    = header .header-of .ensures
+    ∙ ap headerFields (header .before .small .ensures ∙ ap unbe (part-ends 1 (z .header) s)) in
     let e : byte .small2 .result ≡ unbe (part (extensionAt z) (z .extension) s)
     = byte .small2 .ensures ∙ ap unbe (part-ends (extensionAt z) (z .extension) s) in
     let v : value .small3 .result ≡ unbe (part (subtypeAt z) (z .subtype) s)

@@ -9,7 +9,7 @@ use Rattle.radio_erp2.proofs.sizes_for.Tie as tie
 returns : tie.Need-returns
 returns c =
     simp (ne-eqb _ _ (c .before .before .if1 .taken))
-    (c .short-sizes .ensures ∙ ap shortSizes (c .before .wide .ensures .0))
+    (c .short-sizes .ensures ∙ ap shortSizes (c .before .usize-of-byte .ensures .0))
 
 returns-2 : tie.Need-returns-2
 returns-2 c = simp (eq-eqb _ _ (c .before .if1 .left)) (c .long-sizes .ensures)

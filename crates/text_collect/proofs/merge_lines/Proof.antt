@@ -12,7 +12,7 @@ use lib.ListN.{length, take, drop, length-take, length-drop}
 use lib.Seq.{length-take-le}
 use Rattle.bytes.specs.Bytes.{indexOf}
 use Rattle.collector_model.specs.View.{View}
-use Rattle.collector_model.specs.Step.{Outcome}
+use Rattle.collector_model.specs.Step.{StepOutcome}
 use Rattle.collector_state.specs.Collector.{columns, viewIn}
 use Rattle.collector_state.specs.Admission.{admittedOf, Tested}
 use Rattle.collector_state.proofs.Stepping.{admission-fit, tested-next}
@@ -273,7 +273,7 @@ loop-again-2 c =
           (omega (arith, w .short, same, spare-out, l .loop .inv .long))
           (said-text _ _ x (says i) o (time g)
           (relayed-bytes _ _ _ (record { bytes = bytes i; time = parsed i .parse .result .time }) _
-          (ap (λ (y : Outcome). y .answer) (rw z at (a .admit .ensures .outcome)))))
+          (ap (λ (y : StepOutcome). y .answer) (rw z at (a .admit .ensures .outcome)))))
           (said-next _ _ x (says i) o) w;
     }
 

@@ -14,7 +14,7 @@ use lib.ListN.{length, take, drop, length-take, length-drop}
 use lib.Seq.{length-take-le}
 use Rattle.bytes.specs.Bytes.{indexOf}
 use Rattle.collector_model.specs.View.{Reception}
-use Rattle.collector_model.specs.Step.{Outcome}
+use Rattle.collector_model.specs.Step.{StepOutcome}
 use Rattle.collector_state.specs.Collector.{columns, viewIn}
 use Rattle.collector_state.specs.Admission.{admittedOf}
 use Rattle.collector_state.proofs.Stepping.{admission-fit, columns-fit, tested-next}
@@ -296,7 +296,7 @@ loop-again-2 c =
     (rw z at (a .admit .ensures .elements) ∙ columns-fit _ r _ _ (l .loop .inv .tested .said))
     (rw (← o) at (tested-next _ r (l .loop .inv .tested) (time-small (parsed i))))
     (said-text _ _ x (says i) o (time g)
-    (relayed-bytes _ _ _ r _ (ap (λ (y : Outcome). y .answer) (rw z at (a .admit .ensures .outcome)))))
+    (relayed-bytes _ _ _ r _ (ap (λ (y : StepOutcome). y .answer) (rw z at (a .admit .ensures .outcome)))))
     w
     (omega (arith, w .short, spare-out)) place (d .0) (d .1) (printed-none [] 0 2048) (omega arith)
 

@@ -13,14 +13,14 @@ use Rattle.text_program.specs.Collect.{Phase}
 use Rattle.text_collect.specs.Session.{Receiver}
 use Rattle.text_collect.proofs.Taking.{same-length}
 use Rattle.text_print.specs.declared.Turn.{Turn}
-use Rattle.text_print.specs.Step.{chunk, capacity, positionAfter, SteppedOver}
+use Rattle.text_print.specs.Step.{chunk, outputCapacity, positionAfter, SteppedOver}
 use Rattle.text_driver.proofs.run_on.Statement.{statement}
 use Rattle.text_driver.proofs.run_on.Tie as tie
 
 record Running (buffer out : List ℕ) (kept : ℕ) : Type 0 where
   few : kept ≤ lineLimit
   bufferLong : length buffer ≡ chunk
-  outLong : length out ≡ capacity
+  outLong : length out ≡ outputCapacity
 
 abbrev Inv-loop : tie.InvT-loop
 Inv-loop input buffer₀ out₀ s₀ kept₀ left₀ buffer out s kept left = Running buffer out kept
@@ -67,7 +67,7 @@ reading c =
     let counted = c .before .before .before in
     counting (counted .before)
 
-out-long : (c : tie.After-step Inv-loop μ-loop) → length (c .step .last .1 .1 .1 .1 .0) ≡ capacity
+out-long : (c : tie.After-step Inv-loop μ-loop) → length (c .step .last .1 .1 .1 .1 .0) ≡ outputCapacity
 out-long c = same-length (c .step .ensures .output) ∙ turn (reading c) .loop .inv .outLong
 
 -- ---- the needs

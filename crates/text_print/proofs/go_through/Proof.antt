@@ -12,7 +12,7 @@ use borrow.Author.Needs.{needs}
 use denote.Ref.{now}
 use Rattle.text_collect.specs.declared.Session.{Session}
 use Rattle.text_collect.specs.Session.{phaseOf}
-use Rattle.text_print.specs.Step.{chunk, capacity, positionAfter, printedFrom, SteppedOver}
+use Rattle.text_print.specs.Step.{chunk, outputCapacity, positionAfter, printedFrom, SteppedOver}
 use Rattle.text_print.proofs.Turning.{Passing, begins, chunk-there, front-there, text-fits, too-short, done, goes-on, more-read}
 use Rattle.text_print.proofs.go_through.Statement.{statement}
 use Rattle.text_print.proofs.go_through.Tie as tie
@@ -21,7 +21,7 @@ record Going (write : Bool) (input out₀ out buffer text : List ℕ) (s : Sessi
   passing : Passing write input out₀ out (phaseOf s) (take kept buffer) at to
   few : kept ≤ 150
   bufferLong : length buffer ≡ chunk
-  textLong : length text ≡ capacity
+  textLong : length text ≡ outputCapacity
   outLong : length out ≡ length out₀
 
 abbrev Inv-loop : tie.InvT-loop
@@ -91,7 +91,7 @@ stepped c =
     at
     (c .step .ensures)
 
-text-long : (c : tie.After-step Inv-loop μ-loop) → length (c .step .last .1 .1 .1 .1 .0) ≡ capacity
+text-long : (c : tie.After-step Inv-loop μ-loop) → length (c .step .last .1 .1 .1 .1 .0) ≡ outputCapacity
 text-long c =
     let l = turn c .loop in
     let given = printedFrom (phaseOf (l .s)) (kept c ++ take (read c) (drop (l .at) (input c))) (eqb (read c) 0) in

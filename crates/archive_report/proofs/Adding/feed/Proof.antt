@@ -1,4 +1,4 @@
--- `archive_report::Adding::feed` meets its contract: each return is one case of `feedOf`.
+-- `archive_report::Adding::feed` meets its contract: each return is one case of `addPieceOf`.
 use native.Mathlib.Omega.{arith}
 use borrow.Author.Needs.{needs}
 use denote.Ref.{now}
@@ -14,12 +14,12 @@ use Rattle.archive_file.proofs.Calls.{whole-facts}
 use Rattle.base_refusal.specs.Number.{numberOf}
 use Rattle.base_refusal.specs.declared.Refusal.{Refusal}
 use Rattle.base_refusal.specs.declared.Refusal.the-variants.{NotAccepted, Size}
-use Rattle.archive_report_model.specs.Pieces.{Tally, addBlocks, isAdding, isPiece, adding, Feeding, fed, feedOf}
+use Rattle.archive_report_model.specs.Pieces.{Tally, addBlocks, isAdding, isPiece, adding, PieceAdded, pieceAnswer, addPieceOf}
 use Rattle.archive_report_model.proofs.Adding.{going}
 use Rattle.archive_report.specs.declared.Adding.{Adding}
 use Rattle.archive_report.specs.declared.Fed.{Fed}
-use Rattle.archive_report.specs.Report.{reportOf, addingOf, feedResult, linesFed}
-use Rattle.archive_report.specs.Lines.{written}
+use Rattle.archive_report.specs.Report.{reportOf, addingOf, addPieceResult, linesFed}
+use Rattle.archive_report.specs.Lines.{withLines}
 use Rattle.archive_report.specs.Private.{tallyOf}
 use Rattle.archive_file.specs.Archive.{scanOf}
 use Rattle.archive_report.proofs.Arrays.{lines-new, lines-held}
@@ -49,20 +49,20 @@ whole : (c : tie.Else2) → isPiece (addingOf (start c .args .self) .tally .scan
 whole c = sym (c .before .is-piece .ensures) ∙ not-false _ (c .if2 .left)
 
 -- what is handed back beside a refusal
-refusal : (a : Adding) (r : Fed) (why : Refusal) (f : Feeding) → fed (numberOf why) (addingOf a) ≡ f
-    → feedResult r ≡ fed (numberOf why) (addingOf a) → r .next ≡ a
-    → (feedResult r ≡ f) × ((r .next .before ≡ a .before) × (r .next .lines ≡ linesFed f (a .lines)))
+refusal : (a : Adding) (r : Fed) (why : Refusal) (f : PieceAdded) → pieceAnswer (numberOf why) (addingOf a) ≡ f
+    → addPieceResult r ≡ pieceAnswer (numberOf why) (addingOf a) → r .next ≡ a
+    → (addPieceResult r ≡ f) × ((r .next .before ≡ a .before) × (r .next .lines ≡ linesFed f (a .lines)))
 refusal a r why f is e s = (
   e ∙ is,
   (
     ap (λ (x : Adding). x .before) s,
-    stay (f .number) why _ (a .lines) (sym (ap (λ (x : Feeding). x .number) is)) (ap (λ (x : Adding). x .lines) s),
+    stay (f .number) why _ (a .lines) (sym (ap (λ (x : PieceAdded). x .number) is)) (ap (λ (x : Adding). x .lines) s),
   ),
 )
 
 -- and after a piece
-fed-lines : {xs : List ℕ} (f : Feeding) (old : List ℕ) → f .number ≡ 0
-    → xs ≡ written (f .next .tally .lines) old → xs ≡ linesFed f old
+fed-lines : {xs : List ℕ} (f : PieceAdded) (old : List ℕ) → f .number ≡ 0
+    → xs ≡ withLines (f .next .tally .lines) old → xs ≡ linesFed f old
 fed-lines f old z h = rw (eq-eqb (f .number) 0 z) h
 
 returns : tie.Need-returns
@@ -108,8 +108,8 @@ handed b = start (tested (b .before))
 
 known : (b : tie.After-add-blocks) (xs : List ℕ)
     → tallyOf (b .add-blocks .result) xs ≡ tallyOf (b .add-blocks .result) (b .add-blocks .last .0)
-    → fed 0 (adding (reportOf (handed b .args .self .before)) (tallyOf (b .add-blocks .result) xs))
-    ≡ feedOf (addingOf (handed b .args .self)) (now (handed b .args .piece))
+    → pieceAnswer 0 (adding (reportOf (handed b .args .self .before)) (tallyOf (b .add-blocks .result) xs))
+    ≡ addPieceOf (addingOf (handed b .args .self)) (now (handed b .args .piece))
 known b xs same =
     let e = tested (b .before) in
     let a = start e .args in
@@ -133,10 +133,10 @@ returns-3 c =
       c .taken .ensures .0 ∙ is,
       (
         c .taken .ensures .1,
-        fed-lines (feedOf (addingOf (s .args .self)) (now (s .args .piece))) old
-            (sym (ap (λ (f : Feeding). f .number) is))
+        fed-lines (addPieceOf (addingOf (s .args .self)) (now (s .args .piece))) old
+            (sym (ap (λ (f : PieceAdded). f .number) is))
             (c .taken .ensures .2 ∙ lines-held (b .before .so-far .result) t old (b .add-blocks .last .0) g (long s)
-            ∙ ap (λ (f : Feeding). written (f .next .tally .lines) old) is),
+            ∙ ap (λ (f : PieceAdded). withLines (f .next .tally .lines) old) is),
       ),
     )
 
@@ -152,12 +152,12 @@ returns-4 c =
       c .taken2 .ensures .0 ∙ is,
       (
         c .taken2 .ensures .1,
-        fed-lines (feedOf (addingOf (s .args .self)) (now (s .args .piece))) old
-            (sym (ap (λ (f : Feeding). f .number) is))
+        fed-lines (addPieceOf (addingOf (s .args .self)) (now (s .args .piece))) old
+            (sym (ap (λ (f : PieceAdded). f .number) is))
             (c .taken2 .ensures .2
             ∙ lines-new (b .before .so-far .result) t old new g (long s)
             (b .add-blocks .kept .0 ∙ long s) (c .before .if3 .left)
-            ∙ ap (λ (f : Feeding). written (f .next .tally .lines) old) is),
+            ∙ ap (λ (f : PieceAdded). withLines (f .next .tally .lines) old) is),
       ),
     )
 

@@ -13,7 +13,7 @@ use Rattle.base_refusal.specs.declared.Refusal.the-variants.{NotAccepted, Size}
 use Rattle.archive_report_model.specs.Report.{Line, isReport, Addition, addOf}
 use Rattle.archive_report_model.specs.Pieces.{Tally, addBlocks, closing}
 use Rattle.archive_report_model.proofs.Pieces.{closing-is}
-use Rattle.archive_report.specs.Lines.{written}
+use Rattle.archive_report.specs.Lines.{withLines}
 use Rattle.archive_report.specs.Report.{reportOf, linesEnded}
 use Rattle.archive_report.specs.Private.{tallyOf}
 use Rattle.archive_report.proofs.Arrays.{lines-new}
@@ -95,12 +95,12 @@ returns-3 c =
     let is = c .close .ensures .0 ∙ cl in (
       is,
       c .close .ensures .1 ∙ ap (λ (x : Addition). linesEnded x new old) is
-          ∙ done-as (addOf report buffer .number) new (written (addOf report buffer .next .lines) old) old
+          ∙ done-as (addOf report buffer .number) new (withLines (addOf report buffer .next .lines) old) old
           (λ z.
           let w = closing-zero report (tallyOf t new) (ap (λ (x : Addition). x .number) cl ∙ z) in
           lines-new (b .before .start .result) t old new (b .add-blocks .ensures .1)
           (long s) (b .add-blocks .kept .0 ∙ long s) (w .0)
-          ∙ ap (λ (l : List Line). written l old) (sym (w .1) ∙ ap (λ (x : Addition). x .next .lines) cl)),
+          ∙ ap (λ (l : List Line). withLines l old) (sym (w .1) ∙ ap (λ (x : Addition). x .next .lines) cl)),
     )
 
 pub add-spec : {M : Type 1} → statement M

@@ -4,9 +4,9 @@ use native.Mathlib.Omega.{arith}
 use mathlib.Core.Path.{_≡_, sym, ap, _∙_}
 use borrow.Author.Needs.{needs}
 use denote.Ref.{now}
-use Rattle.archive_report_model.specs.Report.{joined}
+use Rattle.archive_report_model.specs.Report.{mergedLine}
 use Rattle.archive_report.specs.Lines.{lineAt}
-use Rattle.archive_report.specs.Private.{rowLine}
+use Rattle.archive_report.specs.Private.{lineFor}
 use Rattle.archive_report.proofs.Windows.{ordered-of, total-at, stored-as}
 use Rattle.archive_report.proofs.Places.{joined-there, put-there, no-room, is-there, not-there}
 use Rattle.archive_report.proofs.lines.add_row.Statement.{statement}
@@ -51,8 +51,8 @@ returns c =
     let there = found t in
     let xs = now (a .lines) in
     let i = f .find .result in
-    joined-there xs (a .count) i (rowLine (a .identity) (a .time) (a .loose)) (f .find .ensures) (there .0) (there .1) _
-    (stored-as (ap (λ (x : ℕ). joined (rowLine x (a .time) (a .loose)) (lineAt xs i)) (there .1))
+    joined-there xs (a .count) i (lineFor (a .identity) (a .time) (a .loose)) (f .find .ensures) (there .0) (there .1) _
+    (stored-as (ap (λ (x : ℕ). mergedLine (lineFor x (a .time) (a .loose)) (lineAt xs i)) (there .1))
     (j .join-row .ensures))
 
 returns-2 : tie.Need-returns-2
@@ -61,7 +61,7 @@ returns-2 c =
     let f = e .before .before .before in
     let a = start f .args in
     no-room (now (a .lines)) (a .count) (f .find .result)
-    (rowLine (a .identity) (a .time) (a .loose)) (f .find .ensures)
+    (lineFor (a .identity) (a .time) (a .loose)) (f .find .ensures)
     (not-there (now (a .lines)) (a .count) (f .find .result)
     (a .identity) (sym (e .before .is-at .ensures) ∙ e .if1 .left))
     (c .if2 .taken)
@@ -77,7 +77,7 @@ returns-3 c =
     let f = e .before .before .before in
     let a = start f .args in
     put-there (now (a .lines)) (a .count) (f .find .result)
-    (rowLine (a .identity) (a .time) (a .loose)) (f .find .ensures)
+    (lineFor (a .identity) (a .time) (a .loose)) (f .find .ensures)
     (not-there (now (a .lines)) (a .count) (f .find .result)
     (a .identity) (sym (e .before .is-at .ensures) ∙ e .if1 .left))
     _ _

@@ -10,7 +10,7 @@ use Rattle.block_layout.specs.Cell.{cellLength}
 use Rattle.block_layout.specs.Block.{headerLength}
 use Rattle.base_buffers.proofs.Segments.{part-length, part-ends}
 use Rattle.archive_model.specs.Row.{rowIn, isRow}
-use Rattle.archive_report_model.specs.Report.{lineOf}
+use Rattle.archive_report_model.specs.Report.{lineOfRow}
 use Rattle.archive_report_model.proofs.Lines.{more-insert}
 use Rattle.base_buffers.specs.Buffer.{part}
 use Rattle.archive_report.specs.Lines.{lineLength, linesAt}
@@ -80,7 +80,7 @@ returns c =
     let s = start at in
     let block = now (s .args .block) in
     let ins =
-    inserted-as (ap (λ (l : List ℕ). lineOf (rowIn l))
+    inserted-as (ap (λ (l : List ℕ). lineOfRow (rowIn l))
     (part-ends (headerLength + cellLength * at .loop .i) cellLength block))
     (r .add-cell .ensures) in
     record {
@@ -102,7 +102,7 @@ loop-again c =
     let s = start at in
     let block = now (s .args .block) in
     let ins =
-    inserted-as (ap (λ (l : List ℕ). lineOf (rowIn l))
+    inserted-as (ap (λ (l : List ℕ). lineOfRow (rowIn l))
     (part-ends (headerLength + cellLength * at .loop .i) cellLength block))
     (r .add-cell .ensures) in
     let more : at .loop .n ≤ r .add-cell .result =
@@ -110,7 +110,7 @@ loop-again c =
       arith,
       ins .count,
       lines-count (at .loop .lines) 0 (at .loop .n),
-      more-insert (lineOf (rowIn (part (headerLength + cellLength * at .loop .i) cellLength block)))
+      more-insert (lineOfRow (rowIn (part (headerLength + cellLength * at .loop .i) cellLength block)))
           (linesAt (at .loop .lines) (at .loop .n)),
     ) in
     record {

@@ -10,7 +10,7 @@ use Rattle.collector_state.specs.declared.Summary.{Summary}
 use Rattle.collector_state.specs.Collector.{viewIn}
 use Rattle.collector_state.specs.Admission.{Tested}
 use Rattle.c_collector.specs.State.{Arrays, arrays, columnsAt, stateAt}
-use Rattle.c_lines.specs.Calls.{isSized}
+use Rattle.c_lines.specs.Calls.{areRowsSized}
 use borrow.Author.Needs.{needs}
 use Rattle.c_lines.proofs.formats.lines_as.Statement.{statement}
 use Rattle.c_lines.proofs.formats.lines_as.Tie as tie
@@ -38,7 +38,7 @@ abbrev start : tie.After-is-sized → tie.Start
 start c = entry (after-state c .before)
 
 sized : (c : tie.Else2)
-    → let a = start (c .before) .args in isSized (length (now (a .moments))) (length (now (a .rows))) ≡ true
+    → let a = start (c .before) .args in areRowsSized (length (now (a .moments))) (length (now (a .rows))) ≡ true
 sized c = sym (c .before .is-sized .ensures) ∙ not-false _ (c .if2 .left)
 
 abbrev after-tests : tie.After-summary-of → tie.Else3

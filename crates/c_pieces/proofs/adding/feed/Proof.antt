@@ -4,8 +4,8 @@ use Prim.Native.Nat.{ℕ}
 use mathlib.Core.List.{List}
 use borrow.Author.Needs.{needs}
 use denote.Ref.{now}
-use Rattle.archive_report_model.specs.Pieces.{Tally, Adding, adding, fed, Feeding, feedOf}
-use Rattle.archive_report.specs.Report.{feedResult, linesFed}
+use Rattle.archive_report_model.specs.Pieces.{Tally, Adding, adding, pieceAnswer, PieceAdded, addPieceOf}
+use Rattle.archive_report.specs.Report.{addPieceResult, linesFed}
 use Rattle.c_report.specs.Calls.{reportAt}
 use Rattle.c_pieces.specs.Adding.{addingAt, tallyNumbers}
 use Rattle.c_pieces.proofs.Addings.{feed-report, feed-kept}
@@ -24,22 +24,23 @@ was c =
     addingAt (now (start c .args .numbers)) (now (start c .args .lines))
     (now (start c .args .adding)) (now (start c .args .tally))
 
-abbrev expected : tie.After-feed → Feeding
-expected c = feedOf (was c) (now (start c .args .piece))
+abbrev expected : tie.After-feed → PieceAdded
+expected c = addPieceOf (was c) (now (start c .args .piece))
 
-is : (c : tie.After-feed) → feedResult (c .feed .result) ≡ expected c
+is : (c : tie.After-feed) → addPieceResult (c .feed .result) ≡ expected c
 is c =
-    c .feed .ensures .0 ∙ ap (λ (x : Adding). feedOf x (now (start c .args .piece))) (c .before .adding-in .ensures .0)
+    c .feed .ensures .0
+    ∙ ap (λ (x : Adding). addPieceOf x (now (start c .args .piece))) (c .before .adding-in .ensures .0)
 
 -- every number of the lines
 lines : (c : tie.After-feed) → c .feed .result .next .lines ≡ linesFed (expected c) (now (start c .args .tally))
 lines c =
     let a = c .before .adding-in .ensures in
     c .feed .ensures .1 .1
-    ∙ ap₂ (λ (x : Adding) (l : List ℕ). linesFed (feedOf x (now (start c .args .piece))) l) (a .0) (a .1)
+    ∙ ap₂ (λ (x : Adding) (l : List ℕ). linesFed (addPieceOf x (now (start c .args .piece))) l) (a .0) (a .1)
 
-number : (c : tie.After-taken-number) → c .taken-number .result ≡ expected (c .before) .number
-number c = c .taken-number .ensures ∙ ap (λ (x : Feeding). x .number) (is (c .before))
+number : (c : tie.After-outcome-number) → c .outcome-number .result ≡ expected (c .before) .number
+number c = c .outcome-number .ensures ∙ ap (λ (x : PieceAdded). x .number) (is (c .before))
 
 refused : tie.Need-returns
 refused c =
@@ -47,7 +48,7 @@ refused c =
     let f = t .before in
     record {
       result =
-          ap₂ fed (number t)
+          ap₂ pieceAnswer (number t)
           (sym (feed-kept (was f) (now (start f .args .piece)) (λ z. c .if1 .taken (number t ∙ z))));
       numbersStay = λ n. refl;
       linesStay = λ n. refl;
@@ -63,13 +64,14 @@ taken c =
     let a = start f .args in
     record {
       result =
-          ap₂ (λ (n : ℕ) (t : Tally). fed n (adding (reportAt (now (a .numbers)) (now (a .lines))) t)) (number t)
-          (c .store .ensures .0 ∙ ap (λ (x : Feeding). x .next .tally) (is f))
-          ∙ ap (λ r. fed (expected f .number) (adding r (expected f .next .tally)))
+          ap₂ (λ (n : ℕ) (t : Tally). pieceAnswer n (adding (reportAt (now (a .numbers)) (now (a .lines))) t))
+          (number t)
+          (c .store .ensures .0 ∙ ap (λ (x : PieceAdded). x .next .tally) (is f))
+          ∙ ap (λ r. pieceAnswer (expected f .number) (adding r (expected f .next .tally)))
           (sym (feed-report (was f) (now (a .piece))));
       numbersStay = λ n. absurd (n (e .if1 .left));
       linesStay = λ n. absurd (n (e .if1 .left));
-      numbersAre = λ z. c .store .ensures .1 ∙ ap (λ (x : Feeding). tallyNumbers (x .next .tally)) (is f);
+      numbersAre = λ z. c .store .ensures .1 ∙ ap (λ (x : PieceAdded). tallyNumbers (x .next .tally)) (is f);
       linesAre = λ z. c .store .ensures .2 ∙ lines f;
     }
 

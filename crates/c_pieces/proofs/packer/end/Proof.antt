@@ -5,7 +5,7 @@ use Rattle.c_pieces.proofs.Packers.{end-not, end-done}
 use Rattle.c_pieces.proofs.packer.end.Statement.{statement}
 use Rattle.c_pieces.proofs.packer.end.Tie as tie
 
-abbrev ended : tie.After-taken-number → tie.After-finish
+abbrev ended : tie.After-outcome-number → tie.After-finish
 ended c = c .before .before .before
 
 abbrev start : tie.After-finish → tie.Start
@@ -15,15 +15,15 @@ refused : tie.Need-returns
 refused c =
     let t = c .before in
     let f = ended t in
-    end-not (t .taken-number .result) (now (start f .args .length))
-    (t .taken-number .ensures) (f .finish .ensures) (c .if1 .taken)
+    end-not (t .outcome-number .result) (now (start f .args .length))
+    (t .outcome-number .ensures) (f .finish .ensures) (c .if1 .taken)
 
 done : tie.Need-returns-2
 done c =
     let t = c .before in
     let f = ended t in
-    end-done (t .taken-number .result) (now (start f .args .length))
-    (t .taken-number .ensures) (f .finish .ensures) (c .if1 .left)
+    end-done (t .outcome-number .result) (now (start f .args .length))
+    (t .outcome-number .ensures) (f .finish .ensures) (c .if1 .left)
 
 pub end-spec : {M : Type 1} → statement M
 end-spec =

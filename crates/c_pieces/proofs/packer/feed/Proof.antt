@@ -12,7 +12,7 @@ entry c = c .before .before .before
 abbrev packed-now : tie.After-positions → tie.After-pack
 packed-now c = c .before .before .before
 
-abbrev fed : tie.After-taken-number → tie.After-pack
+abbrev fed : tie.After-outcome-number → tie.After-pack
 fed c = let s = c .before .before in packed-now (s .before)
 
 abbrev start : tie.After-pack → tie.Start
@@ -22,15 +22,15 @@ refused : tie.Need-returns
 refused c =
     let t = c .before in
     let p = fed t in
-    pack-not (t .taken-number .result) (now (start p .args .dropped))
-    (t .taken-number .ensures) (p .pack .ensures) (c .if1 .taken)
+    pack-not (t .outcome-number .result) (now (start p .args .dropped))
+    (t .outcome-number .ensures) (p .pack .ensures) (c .if1 .taken)
 
 packed : tie.Need-returns-2
 packed c =
     let t = c .before in
     let p = fed t in
-    pack-done (t .taken-number .result) (now (start p .args .dropped))
-    (t .taken-number .ensures) (p .pack .ensures) (c .if1 .left)
+    pack-done (t .outcome-number .result) (now (start p .args .dropped))
+    (t .outcome-number .ensures) (p .pack .ensures) (c .if1 .left)
 
 pub feed-spec : {M : Type 1} → statement M
 feed-spec =

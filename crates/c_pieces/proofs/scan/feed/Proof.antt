@@ -26,14 +26,14 @@ expected c = feedOf (scanAt (now (start c .args .numbers))) (now (start c .args 
 is : (c : tie.After-feed) → feedResult (c .feed .result) ≡ expected c
 is c = c .feed .ensures ∙ ap (λ (x : Scan). feedOf x (now (start c .args .piece))) (c .before .scan-of .ensures)
 
-number : (c : tie.After-taken-number) → c .taken-number .result ≡ expected (c .before) .number
-number c = c .taken-number .ensures ∙ ap (λ (x : Feeding). x .number) (is (c .before))
+number : (c : tie.After-outcome-number) → c .outcome-number .result ≡ expected (c .before) .number
+number c = c .outcome-number .ensures ∙ ap (λ (x : Feeding). x .number) (is (c .before))
 
 refused : tie.Need-returns
 refused c =
     let t = c .before in
     let f = t .before in
-    shown-kept (now (start f .args .numbers)) (expected f) (t .taken-number .result) (number t) (c .if1 .taken)
+    shown-kept (now (start f .args .numbers)) (expected f) (t .outcome-number .result) (number t) (c .if1 .taken)
 
 taken : tie.Need-returns-2
 taken c =
@@ -45,7 +45,7 @@ taken c =
     let fed = feedResult (f .feed .result) in
     let was = now (start f .args .numbers) in
     rw (p .stage-position .ensures, n .stage-number .ensures)
-    (shown-taken was fed (t .taken-number .result) (t .taken-number .ensures) (e .if1 .left)
+    (shown-taken was fed (t .outcome-number .result) (t .outcome-number .ensures) (e .if1 .left)
     ∙ ap (λ (x : Feeding). scanShown was x) (is f))
 
 pub feed-spec : {M : Type 1} → statement M

@@ -29,7 +29,7 @@ shown c =
     let a = start c .args in
     c .telegram .ensures
     ∙ ap (λ (n : ℕ). resized n (part (maxLength * a .i) maxLength (now (a .bytes))))
-    (c .before .before .wide .ensures)
+    (c .before .before .usize-of-byte .ensures .0)
 
 returns : tie.Need-returns
 returns c copies = record { new = λ _. refl; old = λ n. absurd (n (c .if1 .taken)) }

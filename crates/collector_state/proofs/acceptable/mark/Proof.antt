@@ -9,17 +9,17 @@ use Rattle.collector_state.proofs.acceptable.mark.Statement.{statement}
 use Rattle.collector_state.proofs.acceptable.mark.Tie as tie
 
 -- the three bytes are below 256
-abbrev two : tie.After-wide3 → tie.After-wide2
+abbrev two : tie.After-usize-of-byte3 → tie.After-usize-of-byte2
 two c = c .before .before
 
-abbrev one : tie.After-wide3 → tie.After-wide
+abbrev one : tie.After-usize-of-byte3 → tie.After-usize-of-byte
 one c = two c .before .before
 
-abbrev known : tie.After-wide3 → tie.After-shared-slice-known
+abbrev known : tie.After-usize-of-byte3 → tie.After-shared-slice-known
 known c = one c .before .before
 
-small : (c : tie.After-wide3)
-    → (one c .wide .result < 256) × (two c .wide2 .result < 256) × (c .wide3 .result < 256)
+small : (c : tie.After-usize-of-byte3)
+    → (one c .usize-of-byte .result < 256) × (two c .usize-of-byte2 .result < 256) × (c .usize-of-byte3 .result < 256)
 small c =
     let k = known c in
     let n = length (now (k .before .args .telegram)) in (
@@ -32,8 +32,11 @@ returns : tie.Need-returns
 unfolding markOf
 returns c =
     let second = c .before .before in
-    let first = second .before .before in
-    (rw (first .wide .ensures, second .wide2 .ensures, c .wide3 .ensures), omega arith)
+    let first = second .before .before in (
+      rw (first .usize-of-byte .ensures .0, second .usize-of-byte2 .ensures .0, c .usize-of-byte3 .ensures .0),
+      omega
+          arith,
+    )
 
 pub mark-spec : {M : Type 1} → statement M
 mark-spec =

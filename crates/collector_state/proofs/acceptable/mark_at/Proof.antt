@@ -24,7 +24,7 @@ shown c =
     let a = start c .args in
     c .telegram .ensures
     ∙ ap (λ (n : ℕ). resized n (part (maxLength * a .i) maxLength (now (a .bytes))))
-    (c .before .before .before .wide .ensures)
+    (c .before .before .before .usize-of-byte .ensures .0)
 
 returns : tie.Need-returns
 returns c =

@@ -26,7 +26,7 @@ returns-2 c =
     let alike = c .before .before .before in
     let a = start (alike .before) .args in
     sym (longer-not-same (now (a .lens)) (now (a .bytes)) (a .i)
-    (now (a .received)) (λ e. c .if2 .taken (c .before .wide .ensures ∙ e)))
+    (now (a .received)) (λ e. c .if2 .taken (c .before .usize-of-byte .ensures .0 ∙ e)))
 
 returns-3 : tie.Need-returns-3
 returns-3 c =
@@ -35,7 +35,7 @@ returns-3 c =
     let a = start (alike .before) .args in
     c .same .ensures
     ∙ sym (same-said (now (a .lens)) (now (a .bytes)) (a .i) (now (a .received)) _ (c .before .telegram .ensures)
-    (sym (b .before .wide .ensures) ∙ b .if2 .left))
+    (sym (b .before .usize-of-byte .ensures .0) ∙ b .if2 .left))
 
 pub holds-spec : {M : Type 1} → statement M
 holds-spec =

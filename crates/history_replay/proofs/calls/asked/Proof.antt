@@ -4,7 +4,7 @@ use borrow.Author.Needs.{needs}
 use denote.Ref.{now}
 use Rattle.c_collector.specs.State.{Arrays, arrays, stateAt}
 use Rattle.c_collector.specs.Calls.{copiesCall}
-use Rattle.history_replay.specs.Calls.{entryIn}
+use Rattle.history_replay.specs.Calls.{askedEntry}
 use Rattle.history_replay.proofs.Called.{heard}
 use Rattle.history_replay.proofs.calls.asked.Statement.{statement}
 use Rattle.history_replay.proofs.calls.asked.Tie as tie
@@ -27,7 +27,7 @@ returns c =
     let copies = call .before .before .before in
     let number = copies .before .before .before .before in
     let s = start number in
-    heard {s = lent s} (entryIn (now (s .args .r))) _ _ _
+    heard {s = lent s} (askedEntry (now (s .args .r))) _ _ _
     (call .copies-of .ensures ∙ ap (λ k. copiesCall (stateAt (lent s)) k 0) (number .number-at .ensures))
     (totals .totals-of .ensures) (put .put-body .ensures)
 

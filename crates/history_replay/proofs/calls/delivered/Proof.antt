@@ -9,10 +9,10 @@ use lib.ListN.{length, replicate}
 use Rattle.base_buffers.specs.Buffer.{part}
 use Rattle.block_layout.specs.BigEndian.{be}
 use Rattle.base_buffers.proofs.Segments.{Writing, packed, begin, begun-length, within, lend, lent, done}
-use Rattle.history_calls.specs.Answers.{repliesIn}
+use Rattle.history_calls.specs.Answers.{repliesInPlaces}
 use Rattle.history_replay_model.specs.Operation.{delivering}
 use Rattle.history_replay_model.specs.Record.{headOf, replyOf}
-use Rattle.history_replay.specs.Calls.{settingIn, lentIn, receptionsIn, placeIn, placesIn}
+use Rattle.history_replay.specs.Calls.{callSetting, lentIn, burstReceptionsIn, placeIn, placesIn}
 use Rattle.history_replay.proofs.Lent.{count, front, front-length, come-back, come-back-length, come-back-front, places-lent}
 use Rattle.history_replay.proofs.Called.{made-as, delivered}
 use Rattle.history_replay.proofs.calls.delivered.Statement.{statement}
@@ -126,16 +126,16 @@ returns c =
     let at = places .before in
     let s = start at in
     let r = now (s .args .r) in
-    delivered (totals .totals-of .ensures) (settingIn r)
-    (receptionsIn (lentIn (now (s .args .lent)) r)) _ (new call) (placesIn r) (m at)
-    (made-as (ap receptionsIn (call .before .before .lent-in .ensures)) (call .burst-in .ensures))
-    (ap repliesIn (front (24 * m at) (places .places-in .result) ∙ places .places-in .ensures)
+    delivered (totals .totals-of .ensures) (callSetting r)
+    (burstReceptionsIn (lentIn (now (s .args .lent)) r)) _ (new call) (placesIn r) (m at)
+    (made-as (ap burstReceptionsIn (call .before .before .lent-in .ensures)) (call .burst-in .ensures))
+    (ap repliesInPlaces (front (24 * m at) (places .places-in .result) ∙ places .places-in .ensures)
     ∙ places-lent r (m at) (s .pre .0)
     ∙ ap (λ n. replicate n (placeIn r)) (at .place-count .ensures .0))
     (count (new call) (m at) (new-length call))
     (done (step2 put .begun) (room at)
     ∙ ap (λ (l : List ℕ). headOf delivering (call .burst-in .result) (totals .totals-of .result)
-    ++ be 8 (m at) ++ flatten (map replyOf (repliesIn l)))
+    ++ be 8 (m at) ++ flatten (map replyOf (repliesInPlaces l)))
     (come-back-front (24 * m at) (places .places-in .result) (new call)
     (in-places places) (call .burst-in .kept .1 .1 .1 .1 .1 .1 .1 .0)))
 

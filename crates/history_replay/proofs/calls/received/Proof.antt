@@ -11,7 +11,7 @@ use Rattle.radio_telegram.specs.Frame.{frameOf}
 use Rattle.radio_telegram.specs.Repeater.{repeatResult}
 use Rattle.base_buffers.specs.Buffer.{part}
 use Rattle.collector_model.specs.View.{Reception}
-use Rattle.history_replay.specs.Calls.{settingIn, receptionIn}
+use Rattle.history_replay.specs.Calls.{callSetting, callReception}
 use Rattle.history_replay.proofs.Records.{bytes-lent}
 use Rattle.history_replay.proofs.Called.{heard-as, received}
 use Rattle.history_replay.proofs.calls.received.Statement.{statement}
@@ -24,10 +24,10 @@ start c =
 
 -- the bytes that are lent are those that the record says
 lent-bytes : (c : tie.After-least)
-    → part 10 (10 + c .least .result - 10) (now (start c .args .r)) ≡ receptionIn (now (start c .args .r)) .bytes
+    → part 10 (10 + c .least .result - 10) (now (start c .args .r)) ≡ callReception (now (start c .args .r)) .bytes
 lent-bytes c =
     bytes-lent (now (start c .args .r)) _ (c .least .result)
-    (c .least .ensures ∙ ap₂ min (c .before .wide .ensures) refl)
+    (c .least .ensures ∙ ap₂ min (c .before .usize-of-byte .ensures .0) refl)
 
 abbrev least : tie.After-take → tie.After-least
 least c =
@@ -53,12 +53,12 @@ returns c =
     let take = took totals in
     let at = least take in
     let r = now (start at .args .r) in
-    received (totals .totals-of .ensures) (settingIn r)
+    received (totals .totals-of .ensures) (callSetting r)
     (heard-as (λ i. record { bytes = lent-bytes at i; time = at .before .before .before .number-at .ensures i })
     (take .take .ensures))
     _ _ _
     (sent .sent-for .ensures
-    ∙ λ i. cond (eqb (take .take .result) 0) (repeatResult (settingIn r) (lent-bytes at i) .sent) (frameOf []))
+    ∙ λ i. cond (eqb (take .take .result) 0) (repeatResult (callSetting r) (lent-bytes at i) .sent) (frameOf []))
     (form .form-with .ensures) refl (put .put-answered .ensures)
 
 pub received-spec : {M : Type 1} → statement M

@@ -16,7 +16,7 @@ returns c =
     let s = known .before .before .before in
     put .put-reply .ensures
     ∙ place-cell (now (s .args .place)) (s .pre .1) _ _ _ (form .form-with .ensures)
-    (wide .wide .ensures) (bytes .put-bytes .ensures)
+    (wide .usize-of-byte .ensures .0) (bytes .put-bytes .ensures)
 
 pub put-place-spec : {M : Type 1} → statement M
 put-place-spec =

@@ -9,7 +9,7 @@ use Rattle.collector_state.specs.Collector.{viewOf}
 use Rattle.collector_state.specs.Heard.{heardOf}
 use Rattle.history_replay_model.specs.Operation.{asking}
 use Rattle.history_replay_model.specs.Record.{headOf}
-use Rattle.history_replay.specs.Calls.{entryIn}
+use Rattle.history_replay.specs.Calls.{askedEntry}
 use Rattle.history_replay.proofs.Called.{heard-value}
 use Rattle.history_replay.proofs.value_calls.asked.Statement.{statement}
 use Rattle.history_replay.proofs.value_calls.asked.Tie as tie
@@ -19,7 +19,7 @@ start c = c .before .before .before .before
 
 -- what `copies` ensures, of the entry that the record says
 answer : (c : tie.After-copies)
-    → heardOf (c .copies .result) ≡ copiesOf (viewOf (start c .args .c)) (entryIn (now (start c .args .r)))
+    → heardOf (c .copies .result) ≡ copiesOf (viewOf (start c .args .c)) (askedEntry (now (start c .args .r)))
 answer c = c .copies .ensures ∙ ap (copiesOf (viewOf (start c .args .c))) (c .before .number-at .ensures)
 
 returns : tie.Need-returns
@@ -28,9 +28,9 @@ returns c =
     let number = put .before .before .before in
     let t = number .before in
     let a = start t .args in
-    heard-value (entryIn (now (a .r))) (t .copies .result) (answer t)
+    heard-value (askedEntry (now (a .r))) (t .copies .result) (answer t)
     (put .put-body .ensures
-    ∙ λ i. headOf asking (number .asked-number .ensures i) (a .c .summary .totals)
+    ∙ λ i. headOf asking (number .outcome-number .ensures i) (a .c .summary .totals)
     ++ be 8 (t .copies .result .copies))
 
 pub asked-spec : {M : Type 1} → statement M

@@ -15,7 +15,7 @@ use Rattle.collector_burst.specs.Records.{listed, receptionOf, repliedOf}
 use Rattle.c_collector.specs.State.{arraysOf}
 use Rattle.history_calls.specs.Elements.{arraysAfter}
 use Rattle.history_calls.proofs.Elements.{bursted-value}
-use Rattle.history_replay.specs.Calls.{settingIn}
+use Rattle.history_replay.specs.Calls.{callSetting}
 use Rattle.history_replay.proofs.Filling.{receptions-are, places-are}
 use Rattle.history_replay.proofs.value_calls.burst_in.Statement.{statement}
 use Rattle.history_replay.proofs.value_calls.burst_in.Tie as tie
@@ -37,8 +37,8 @@ returns c =
     (count .least .ensures) (records .receptions-in .ensures) in
     let ps = places-are r _ _ (a .m) (start .pre .1) (places .places .ensures) (place .place-in .ensures) in
     record {
-      result = is .result ∙ λ i. burstOf (settingIn r) (viewOf (a .c)) (rs i) (ps i);
-      elements = bursted-value is ∙ λ i. arraysAfter (arraysOf (a .c)) (Burst (settingIn r) (rs i) (ps i));
+      result = is .result ∙ λ i. burstOf (callSetting r) (viewOf (a .c)) (rs i) (ps i);
+      elements = bursted-value is ∙ λ i. arraysAfter (arraysOf (a .c)) (Burst (callSetting r) (rs i) (ps i));
     }
 
 pub burst-in-spec : {M : Type 1} → statement M

@@ -10,7 +10,8 @@ use Rattle.base_buffers.specs.Buffer.{part}
 use Rattle.base_buffers.proofs.Segments.{Writing, packed, begin, lend, lent, within, done, part-length}
 use Rattle.collector_model.specs.Image.{imageLength, checkpointOf}
 use Rattle.collector_state.specs.Collector.{viewOf}
-use Rattle.collector_checkpoint.specs.Checkpoint.{loadedNumber, Restores}
+use Rattle.base_refusal.specs.Number.{outcomeNumber}
+use Rattle.collector_checkpoint.specs.Checkpoint.{Restores}
 use Rattle.history_replay_model.specs.Operation.{restoring}
 use Rattle.history_replay_model.specs.Record.{headOf, seenBytes}
 use Rattle.history_replay.specs.Calls.{outputIn}
@@ -86,8 +87,8 @@ returns c =
     let totals = t .restore .result .next .summary .totals in
     let both =
     lend (first (put t) .begun) _
-    (headOf restoring (loadedNumber (t .restore .result .answer)) totals) (end at + 50)
-    (second .put-head .ensures ∙ λ i. headOf restoring (number .loaded-number .ensures i) totals)
+    (headOf restoring (outcomeNumber (t .restore .result .answer)) totals) (end at + 50)
+    (second .put-head .ensures ∙ λ i. headOf restoring (number .outcome-number .ensures i) totals)
     (second .put-head .kept .0) (omega arith) (omega arith) in
     resumed-value (output at) _ refl (t .before .before .before .fresh .ensures) (restored t) (done both h)
 

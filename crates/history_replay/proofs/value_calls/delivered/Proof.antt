@@ -8,10 +8,10 @@ use denote.Ref.{now}
 use lib.ListN.{length, replicate, length-replicate}
 use Rattle.block_layout.specs.BigEndian.{be}
 use Rattle.base_buffers.proofs.Segments.{Writing, packed, begin, begun-length, within, lend, lent, done}
-use Rattle.collector_burst.specs.Records.{handedNumber}
+use Rattle.base_refusal.specs.Number.{outcomeNumber}
 use Rattle.history_replay_model.specs.Operation.{delivering}
 use Rattle.history_replay_model.specs.Record.{headOf}
-use Rattle.history_replay.specs.Calls.{settingIn, lentIn, receptionsIn, placeIn, placesIn}
+use Rattle.history_replay.specs.Calls.{callSetting, lentIn, burstReceptionsIn, placeIn, placesIn}
 use Rattle.history_replay.specs.Private.{BurstGiven}
 use Rattle.history_replay.proofs.Called.{given-as, given-length, delivered-value}
 use Rattle.history_replay.proofs.value_calls.delivered.Statement.{statement}
@@ -35,12 +35,13 @@ room : (c : tie.After-burst-in) → length (now (start c .args .out)) ≡ 58 + 3
 room c = start c .pre .1 ∙ ap (λ n. 58 + 31 * n) (sym (c .before .before .place-count .ensures .0))
 
 -- what `burst_within` ensures, of the receptions and places that the record says
-taken : (c : tie.After-burst-in) → BurstGiven (start c .args .c) (settingIn (now (start c .args .r)))
-    (receptionsIn (lentIn (now (start c .args .lent)) (now (start c .args .r)))) (placesIn (now (start c .args .r)))
+taken : (c : tie.After-burst-in) → BurstGiven (start c .args .c) (callSetting (now (start c .args .r)))
+    (burstReceptionsIn (lentIn (now (start c .args .lent)) (now (start c .args .r))))
+    (placesIn (now (start c .args .r)))
     (c .before .before .place-count .result) (c .burst-in .result)
 taken c =
     let r = now (start c .args .r) in
-    given-as (ap receptionsIn (c .before .lent-in .ensures))
+    given-as (ap burstReceptionsIn (c .before .lent-in .ensures))
     (ap (λ n. replicate n (placeIn r)) (c .before .before .place-count .ensures .0)) (c .burst-in .ensures)
 
 -- the head and the length, and then the places
@@ -53,8 +54,8 @@ step1 c =
     let totals = t .burst-in .result .bursted .next .summary .totals in
     packed
     (lend (begin (now (start t .args .out))) _
-    (headOf delivering (handedNumber (t .burst-in .result .bursted .answer)) totals ++ be 8 m) 58
-    (c .put-body .ensures ∙ λ i. headOf delivering (number .handed-number .ensures i) totals ++ be 8 m)
+    (headOf delivering (outcomeNumber (t .burst-in .result .bursted .answer)) totals ++ be 8 m) 58
+    (c .put-body .ensures ∙ λ i. headOf delivering (number .outcome-number .ensures i) totals ++ be 8 m)
     (c .put-body .kept .0) (omega arith) (omega arith))
 
 abbrev body : tie.After-put-replies → tie.After-put-body

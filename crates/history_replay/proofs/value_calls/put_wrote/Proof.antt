@@ -7,7 +7,7 @@ use denote.Ref.{now}
 use Rattle.block_layout.specs.BigEndian.{be}
 use Rattle.base_buffers.proofs.Segments.{begin, lend}
 use Rattle.collector_state.specs.Collector.{viewOf}
-use Rattle.collector_checkpoint.specs.Checkpoint.{savedNumber}
+use Rattle.base_refusal.specs.Number.{outcomeNumber}
 use Rattle.history_replay_model.specs.Operation.{saving}
 use Rattle.history_replay_model.specs.Record.{headOf}
 use Rattle.history_replay.proofs.Making.{saved-output, output-length, rest}
@@ -25,7 +25,7 @@ returns c =
     let save = number .before .before .before in
     let a = start save .args in
     let entry = now (a .out) in
-    let n = savedNumber (save .save-into .result) in
+    let n = outcomeNumber (save .save-into .result) in
     let ys = save .save-into .last .0 in
     let v = viewOf (a .c) in
     let length-of = rest v entry ys (a .fill) n (start save .pre) in
@@ -33,7 +33,7 @@ returns c =
     saved-output v entry ys (a .fill) n (start save .pre) (save .save-into .ensures) (save .save-into .kept .0) _
     (lend (begin _) _ (headOf saving n (a .c .summary .totals) ++ be 8 length-of) 58
     (put .put-body .ensures
-    ∙ λ i. headOf saving (number .saved-number .ensures i) (a .c .summary .totals) ++ be 8 length-of)
+    ∙ λ i. headOf saving (number .outcome-number .ensures i) (a .c .summary .totals) ++ be 8 length-of)
     (put .put-body .kept .0) (omega arith) (omega (arith, l)))
 
 pub put-wrote-spec : {M : Type 1} → statement M

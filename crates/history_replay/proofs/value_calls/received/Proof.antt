@@ -11,7 +11,7 @@ use Rattle.base_buffers.specs.Buffer.{part}
 use Rattle.collector_model.specs.Answer.{isKept, shownOf}
 use Rattle.collector_model.specs.Step.{sentFor}
 use Rattle.collector_state.specs.Collector.{Takes}
-use Rattle.history_replay.specs.Calls.{settingIn, receptionIn}
+use Rattle.history_replay.specs.Calls.{callSetting, callReception}
 use Rattle.history_replay.proofs.Records.{bytes-lent}
 use Rattle.history_replay.proofs.Called.{heard-as-value, received-value}
 use Rattle.history_replay.proofs.value_calls.received.Statement.{statement}
@@ -27,12 +27,13 @@ start c =
 
 -- the bytes that are lent are those that the record says
 lent-bytes : (c : tie.After-take)
-    → part 10 (10 + least c .least .result - 10) (now (start c .args .r)) ≡ receptionIn (now (start c .args .r)) .bytes
+    → part 10 (10 + least c .least .result - 10) (now (start c .args .r))
+    ≡ callReception (now (start c .args .r)) .bytes
 lent-bytes c = bytes-lent (now (start c .args .r)) _ (least c .least .result) (least c .least .ensures
-    ∙ ap₂ min (least c .before .wide .ensures) refl)
+    ∙ ap₂ min (least c .before .usize-of-byte .ensures .0) refl)
 
 -- what `take` ensures, of the reception that the record says
-taken : (c : tie.After-take) → Takes (start c .args .c) (receptionIn (now (start c .args .r))) (c .take .result)
+taken : (c : tie.After-take) → Takes (start c .args .c) (callReception (now (start c .args .r))) (c .take .result)
 taken c =
     heard-as-value (λ i.
     record { bytes = lent-bytes c i; time = least c .before .before .before .number-at .ensures i })
@@ -40,16 +41,16 @@ taken c =
 
 -- and `sent_for` of its answer
 sent : (c : tie.After-sent-for) → c .sent-for .result
-    ≡ sentFor (settingIn (now (start (c .before .before .before) .args .r)))
+    ≡ sentFor (callSetting (now (start (c .before .before .before) .args .r)))
     (shownOf (c .before .before .before .take .result .answer))
-    (receptionIn (now (start (c .before .before .before) .args .r)))
+    (callReception (now (start (c .before .before .before) .args .r)))
 unfolding sentFor
 sent c =
     let t = c .before .before .before in
     c .sent-for .ensures
     ∙ λ i.
     frameOf (cond (isKept (shownOf (t .take .result .answer)))
-    (repeatOf (settingIn (now (start t .args .r))) (lent-bytes t i)) [])
+    (repeatOf (callSetting (now (start t .args .r))) (lent-bytes t i)) [])
 
 returns : tie.Need-returns
 returns c =
@@ -58,7 +59,7 @@ returns c =
     let form = number .before in
     let s = form .before in
     let t = s .before .before .before in
-    received-value (settingIn (now (start t .args .r))) (taken t) _ _ _ (sent s)
+    received-value (callSetting (now (start t .args .r))) (taken t) _ _ _ (sent s)
     (form .form-of .ensures) (number .number-of .ensures) (put .put-answered .ensures)
 
 pub received-spec : {M : Type 1} → statement M

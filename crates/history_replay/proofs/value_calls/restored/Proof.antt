@@ -15,7 +15,7 @@ returns c =
     let a = t .before .before .before .before .before .args in
     restored-value {c = a .c} (restored-as-value (t .before .lent-in .ensures) (t .restore .ensures))
     (put .put-head .ensures
-    ∙ λ i. headOf restoring (number .loaded-number .ensures i) (t .restore .result .next .summary .totals))
+    ∙ λ i. headOf restoring (number .outcome-number .ensures i) (t .restore .result .next .summary .totals))
 
 pub restored-spec : {M : Type 1} → statement M
 restored-spec =

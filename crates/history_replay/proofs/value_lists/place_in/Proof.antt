@@ -14,7 +14,10 @@ returns c =
     let r = now (put .before .before .before .before .args .r) in
     λ i. record {
       answer = c .form-in .ensures i;
-      sent = record { len = len .wide .ensures i; bytes = (put .put-bytes .ensures ∙ field-lent r 27 (omega arith)) i };
+      sent = record {
+        len = len .usize-of-byte .ensures .0 i;
+        bytes = (put .put-bytes .ensures ∙ field-lent r 27 (omega arith)) i;
+      };
     }
 
 pub place-in-spec : {M : Type 1} → statement M

@@ -14,10 +14,10 @@ use Rattle.base_buffers.proofs.Buffer.{resized-whole}
 use Rattle.block_layout.specs.Block.{blockLength}
 use Rattle.base_refusal.specs.Number.{numberOf}
 use Rattle.base_refusal.proofs.Numbers.{refused-number}
-use Rattle.archive_file.specs.declared.Taken.{Taken}
-use Rattle.archive_file.specs.declared.Taken.the-variants.{Refused}
+use Rattle.base_refusal.specs.declared.Outcome.{Outcome}
+use Rattle.base_refusal.specs.declared.Outcome.the-variants.{Refused}
 use Rattle.archive_cut.specs.Calls.{cutBlockResult}
-use Rattle.journal_calls.specs.Block.{isCopyOf}
+use Rattle.journal_calls.specs.Block.{isCutCopyOf}
 use Rattle.journal_calls.proofs.Judged.{says, copy-size, copy-told}
 use Rattle.journal_calls.proofs.block.is_copy.Statement.{statement}
 use Rattle.journal_calls.proofs.block.is_copy.Tie as tie
@@ -42,7 +42,7 @@ is-block c = put c .put-bytes .ensures ∙ resized-whole _ (now (start c .args .
 
 copied : (c : tie.After-cut-block)
     → says (now (start c .args .last)) (cutBlockResult (c .cut-block .result) (c .cut-block .last .0))
-    ≡ isCopyOf (now (start c .args .last)) (start c .args .rows) (now (start c .args .block))
+    ≡ isCutCopyOf (now (start c .args .last)) (start c .args .rows) (now (start c .args .block))
 copied c =
     let a = start c .args in
     copy-told (now (a .last)) (a .rows) (now (a .block)) (c .cut-block .result)
@@ -53,14 +53,14 @@ returns-2 : tie.Need-returns-2
 returns-2 c =
     let t = c .before .before in
     let k = t .before .before .before in
-    let said : Taken → Bool = λ r. says (now (start k .args .last)) (cutBlockResult r (k .cut-block .last .0)) in
+    let said : Outcome → Bool = λ r. says (now (start k .args .last)) (cutBlockResult r (k .cut-block .last .0)) in
     c .equal .ensures ∙ ap said (sym (t .enum-told .given .1)) ∙ copied k
 
 returns-3 : tie.Need-returns-3
 returns-3 c =
     let k = c .before .before .before in
     let why = c .enum-told2 .given .0 .0 in
-    let said : Taken → Bool = λ r. says (now (start k .args .last)) (cutBlockResult r (k .cut-block .last .0)) in
+    let said : Outcome → Bool = λ r. says (now (start k .args .last)) (cutBlockResult r (k .cut-block .last .0)) in
     let no : false ≡ said (Refused why) = rw (ne-eqb (numberOf why) 0 (refused-number why)) in
     no ∙ ap said (sym (c .enum-told2 .given .1)) ∙ copied k
 

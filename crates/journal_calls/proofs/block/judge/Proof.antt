@@ -4,7 +4,7 @@ use mathlib.Core.Bool.{false}
 use borrow.Author.Needs.{needs}
 use borrow.Author.Tests.{not-true, not-false}
 use denote.Ref.{now}
-use Rattle.journal_calls.specs.Block.{isCopyOf}
+use Rattle.journal_calls.specs.Block.{isCutCopyOf}
 use Rattle.journal_calls.proofs.Judged as judged
 use Rattle.journal_calls.proofs.block.judge.Statement.{statement}
 use Rattle.journal_calls.proofs.block.judge.Tie as tie
@@ -30,7 +30,7 @@ longer c =
     judged.longer (now (a .last)) (a .rows) (now (a .block)) (sym (i .is-copy .ensures) ∙ t .if1 .taken) (sym
     (e .equal .ensures) ∙ c .if2 .left)
 
-none : (c : tie.Else1) → isCopyOf (now (start (c .before) .args .last)) (start (c .before) .args .rows) (now (start
+none : (c : tie.Else1) → isCutCopyOf (now (start (c .before) .args .last)) (start (c .before) .args .rows) (now (start
     (c .before) .args .block)) ≡ false
 none c = sym (c .before .is-copy .ensures) ∙ c .if1 .left
 

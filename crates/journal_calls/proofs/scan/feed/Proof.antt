@@ -8,7 +8,7 @@ use borrow.Author.Needs.{needs}
 use borrow.Author.Tests.{not-true, not-false}
 use denote.Ref.{now}
 use Rattle.archive_model.specs.Buffer.{blocksIn}
-use Rattle.journal_calls.specs.Run.{Run, runOf, isRun, runAt, runNumbers, runBlocks, ScanCall}
+use Rattle.journal_calls.specs.Run.{Run, runOf, isRun, runAt, runNumbers, runBlocks, RunCall}
 use Rattle.journal_calls.proofs.Runs.{RunFacts, run-facts, feed-not, feed-odd, feed-many, feed-done}
 use Rattle.journal_calls.proofs.scan.feed.Statement.{statement}
 use Rattle.journal_calls.proofs.scan.feed.Tie as tie
@@ -40,7 +40,7 @@ yes-at c = sym (ap isRun (said (c .before))) ∙ yes c
 facts : (c : tie.Else1) → RunFacts (runOf (c .before .before .run-in .result))
 facts c = run-facts (runOf (c .before .before .run-in .result)) (yes c)
 
-abbrev beside : List ℕ → ℕ → ScanCall
+abbrev beside : List ℕ → ℕ → RunCall
 beside l n = record { number = n; numbers = l }
 
 not-run : tie.Need-returns

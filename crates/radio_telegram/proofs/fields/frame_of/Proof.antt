@@ -3,7 +3,7 @@ use native.Mathlib.Omega.{arith}
 use borrow.Author.Needs.{needs}
 use Prim.Native.Nat.{_+_, _≤_}
 use lib.ListN.{length, length-take}
-use Rattle.radio_telegram.specs.Fields.{headOf, idsOf, telegramBytes, Shaped}
+use Rattle.radio_telegram.specs.Fields.{beforeData, idsOf, telegramBytes, Shaped}
 use Rattle.radio_telegram.proofs.Frames.{frame-len}
 use Rattle.radio_telegram.proofs.Building.{bytes-length}
 use Rattle.radio_telegram.proofs.fields.frame_of.Statement.{statement}
@@ -19,7 +19,8 @@ head-known c = c .before .before .before
 shape : (c : tie.Start) → Shaped (c .args .t)
 shape c = record { payload = search needs; destid = search needs; txid = search needs }
 
-start-length : (c : tie.Start) → length (headOf (c .args .t)) + c .args .t .len + length (idsOf (c .args .t)) + 2 ≤ 21
+start-length : (c : tie.Start)
+    → length (beforeData (c .args .t)) + c .args .t .len + length (idsOf (c .args .t)) + 2 ≤ 21
 start-length c = omega (arith, bytes-length (c .args .t) (shape c) (c .pre .high), c .pre .fits)
 
 array-share-prefix-payload : tie.Need-array-share-prefix-payload

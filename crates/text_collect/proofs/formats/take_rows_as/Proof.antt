@@ -12,7 +12,7 @@ use denote.Ref.{now}
 use lib.ListN.{length, take, drop, length-take, length-drop}
 use lib.Seq.{length-take-le}
 use Rattle.bytes.specs.Bytes.{indexOf}
-use Rattle.collector_model.specs.Step.{Outcome}
+use Rattle.collector_model.specs.Step.{StepOutcome}
 use Rattle.collector_state.specs.Collector.{Columns, columns, viewIn}
 use Rattle.collector_state.specs.Admission.{relayedFor, admission, admittedOf, columnsAdmitted}
 use Rattle.collector_state.proofs.Stepping.{admission-fit, columns-fit, tested-next}
@@ -21,7 +21,7 @@ use Rattle.text_lines.specs.Reading.{lineReading, reception, frontOf, lineOf, b
 use Rattle.text_lines.proofs.Answers.{len-fits, bytes-fill, said-open, said-ended, said-bad, said-reception}
 use Rattle.text_lines.proofs.Whole.{said}
 use Rattle.text_rows.specs.Text.{decimalText}
-use Rattle.text_rows.specs.Formats.{rowIn}
+use Rattle.text_rows.specs.Formats.{rowTextIn}
 use Rattle.text_rows.specs.declared.formats.Format.{Format}
 use Rattle.base_buffers.proofs.Stores.{take-rest, if-fits}
 use Rattle.text_program.specs.Buffer.{isUnended}
@@ -326,7 +326,7 @@ loop-again-2 c =
     let x = receptionAt (r .time) (bytes i) in
     -- what is lent ends at its length less 0
     let z : r .len - 0 ≡ r .len = omega arith in
-    let outcomes : ℕ → Outcome = λ m. admission (s .fit) v (receptionAt (r .time) (take m heard)) in
+    let outcomes : ℕ → StepOutcome = λ m. admission (s .fit) v (receptionAt (r .time) (take m heard)) in
     let outcome = a .admit .ensures .outcome ∙ ap outcomes z in
     let o = outcome ∙ admission-fit _ _ _ (l .loop .inv .tested .said) in
     let entries = columns (l .loop .times) (l .loop .lens) (l .loop .entries) (l .loop .copies) in
@@ -334,10 +334,10 @@ loop-again-2 c =
     let elements = a .admit .ensures .elements ∙ ap laid z ∙ columns-fit _ x _ _ (l .loop .inv .tested .said) in
     let last = a .admit .last .1 in
     let next = admittedOf (columns (last .0) (last .1 .0) (last .1 .1 .0) (last .1 .1 .1 .0)) (a .admit .result) in
-    let sent = relayed-bytes (s .setting) (s .fit) v x (next .answer) (ap (λ (y : Outcome). y .answer) outcome) in
+    let sent = relayed-bytes (s .setting) (s .fit) v x (next .answer) (ap (λ (y : StepOutcome). y .answer) outcome) in
     let moment = take (l .loop .at + r .used - (2 * r .len + 2) - l .loop .at) (rest i) in
     let texts : ℕ → List ℕ = λ m.
-    rowIn (format l) moment (printedRow (next .answer)) (take m heard)
+    rowTextIn (format l) moment (printedRow (next .answer)) (take m heard)
     (relayedFor (s .setting) (next .answer) (take m heard))
     (sourceOf (take m heard)) in
     let text = said-text (format l) _ _ next (says i) o (time i) sent ∙ sym (ap texts z) in

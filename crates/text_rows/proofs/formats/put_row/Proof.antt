@@ -7,7 +7,7 @@ use borrow.Author.Tests.{not-true, not-false, leb-true}
 use denote.Ref.{now}
 use lib.Dec.{leb}
 use lib.ListN.{length}
-use Rattle.text_rows.specs.Formats.{rowIn, longestRowIn}
+use Rattle.text_rows.specs.Formats.{rowTextIn, longestRowIn}
 use Rattle.base_buffers.proofs.Stores.{loosened, not-fitting, fitting}
 use borrow.Author.Needs.{needs}
 use Rattle.text_rows.proofs.formats.put_row.Statement.{statement}
@@ -21,7 +21,7 @@ entry c =
 too-small : tie.Need-returns
 too-small c =
     let a = entry (c .before) .args in
-    not-fitting (rowIn (a .format) (now (a .time)) (a .row) (now (a .heard)) (now (a .sent)) (a .source))
+    not-fitting (rowTextIn (a .format) (now (a .time)) (a .row) (now (a .heard)) (now (a .sent)) (a .source))
     (sym (c .before .has-capacity .ensures) ∙ not-true _ (c .if1 .taken))
 
 fits : (c : tie.Else1)
@@ -47,21 +47,21 @@ write-json-requires : tie.Need-write-json-requires
 write-json-requires c κs = room (c .before .before .before)
 
 text : tie.Need-returns-2
-unfolding rowIn
+unfolding rowTextIn
 text c =
     let w = c .before .before in
     let t = w .before .before in
     rw (t .enum-told .given .1) (fitting (fits (t .before .before)) (loosened (w .write-row .ensures) (omega arith)))
 
 csv : tie.Need-returns-3
-unfolding rowIn
+unfolding rowTextIn
 csv c =
     let w = c .before .before in
     let t = w .before .before in
     rw (t .enum-told2 .given .1) (fitting (fits (t .before .before)) (loosened (w .write-csv .ensures) (omega arith)))
 
 json : tie.Need-returns-4
-unfolding rowIn
+unfolding rowTextIn
 json c =
     let w = c .before .before in
     let t = w .before .before in
