@@ -25,7 +25,9 @@ abbrev μ-loop : tie.MeasureT-loop
     i-end - i
 
 abbrev start : tie.At-loop Inv-loop μ-loop → tie.Start Inv-loop μ-loop
-start c = c .before .before .before .before
+start c =
+    let entered = c .before in
+    entered .before .before .before
 
 -- in a turn there is a whole record
 record-in : (c : tie.In-loop Inv-loop μ-loop)
@@ -52,8 +54,8 @@ room-now c = within (turned c .before .loop .inv .made .begun) _ (room c)
 -- and before its arguments
 abbrev args5 : tie.After-call-arg5 Inv-loop μ-loop → tie.After-size-in Inv-loop μ-loop
 args5 c =
-    let a = c .before .before .before in
-    a .before .before
+    let lengths = c .before .before .before in
+    lengths .before .before
 
 abbrev args6 : tie.After-call-arg6 Inv-loop μ-loop → tie.After-size-in Inv-loop μ-loop
 args6 c = args5 (c .before)

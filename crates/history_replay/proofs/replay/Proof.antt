@@ -7,8 +7,9 @@ use Rattle.history_replay.proofs.replay.Tie as tie
 returns : tie.Need-returns
 returns c =
     let done = c .before .before in
-    let a = done .before .before .before in
-    let started = a .before .before .before .before in
+    let copies = done .before .before .before in
+    let times = copies .before .before .before in
+    let started = times .before in
     let f = started .fresh .ensures in
     replays _ _ _ (f .zero) (f .state) (done .resume .ensures)
 

@@ -17,7 +17,8 @@ use Rattle.history_replay.proofs.resume.Tie as tie
 returns : tie.Need-returns
 returns c =
     let test = c .before in
-    let a = test .before .before .before .before .args in
+    let entered = test .before in
+    let a = entered .before .before .before .args in
     let short : length (now (a .out)) < sizeOfAll (callsIn (now (a .lent)) (now (a .calls))) =
     omega (
       arith,
@@ -30,8 +31,8 @@ returns c =
 
 all-requires : tie.Need-all-requires
 all-requires c κs =
-    let a = c .before .before .before in
-    let test = a .before .before .before in
+    let bytes = c .before .before .before in
+    let test = bytes .before .before .before in
     leb-true _ _ (sym (test .before .fits2 .ensures) ∙ not-false _ (test .if1 .left))
 
 returns-2 : tie.Need-returns-2

@@ -22,10 +22,11 @@ returns : tie.Need-returns
 returns c =
     let put = c .before .before in
     let totals = put .before .before in
-    let arg = totals .before .before .before in
-    let call = arg .before .before .before in
+    let bytes = totals .before .before .before in
+    let call = bytes .before .before .before in
     let copies = call .before .before .before in
-    let number = copies .before .before .before .before in
+    let times = copies .before .before .before in
+    let number = times .before in
     let s = start number in
     heard {s = lent s} (askedEntry (now (s .args .r))) _ _ _
     (call .copies-of .ensures ∙ ap (λ k. copiesCall (stateAt (lent s)) k 0) (number .number-at .ensures))

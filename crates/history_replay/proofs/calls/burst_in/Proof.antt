@@ -8,10 +8,10 @@ use Rattle.history_replay.proofs.calls.burst_in.Tie as tie
 
 abbrev listed : tie.After-burst → tie.After-frames-in
 listed c =
-    let a = c .before .before .before in
-    let b = a .before .before .before in
-    let d = b .before .before .before in
-    d .before .before .before
+    let frames = c .before .before .before in
+    let known = frames .before .before .before in
+    let bytes = known .before .before .before in
+    bytes .before .before .before
 
 returns : tie.Need-returns
 returns c =
@@ -19,7 +19,8 @@ returns c =
     let frames = listed call in
     let moments = frames .before in
     let count = moments .before in
-    let s = count .before .before .before .before in
+    let entered = count .before in
+    let s = entered .before .before .before in
     made (now (s .args .records)) (count .least .result) (count .least .ensures) _ _
     (moments .moments-in .ensures) (frames .frames-in .ensures) (call .burst .ensures)
 

@@ -29,27 +29,29 @@ lent-arrays s =
 abbrev start : tie.After-output-length → tie.Start
 start c = c .before .before .before
 
+abbrev lending : tie.After-put-wrote-arg5 → tie.After-output-length
+lending c =
+    let lent = c .before .before .before in
+    lent .before .before
+
 abbrev lengths : tie.After-put-wrote → tie.After-output-length
-lengths c =
-    let a = c .before .before .before in
-    let b = a .before .before .before in
-    b .before .before
+lengths c = lending (c .before .before .before)
 
 abbrev put : tie.After-least → tie.After-put-wrote
 put c =
-    let a = c .before .before .before in
-    let b = a .before .before .before in
-    b .before .before .before
+    let copies = c .before .before .before in
+    let times = copies .before .before .before in
+    times .before .before .before
 
 abbrev least : tie.After-out2 → tie.After-least
 least c =
-    let a = c .before .before .before in
-    a .before .before .before
+    let bytes = c .before .before .before in
+    bytes .before .before .before
 
 abbrev call : tie.After-totals-of → tie.After-restore
 call c =
-    let a = c .before .before .before in
-    a .before .before .before
+    let bytes = c .before .before .before in
+    bytes .before .before .before
 
 -- ---- lengths
 
@@ -121,9 +123,9 @@ cut-spec =
     (λ c. omega (arith, c .output-length .ensures .1))
     (λ c. search needs)
     (λ c. search needs)
-    (λ c. omega (arith, room (c .before .before .before .before .before)))
+    (λ c. omega (arith, room (lending c)))
     (λ c. search needs)
-    (λ c κs. omega (arith, first-room (c .before .before .before .before .before .before .before)))
+    (λ c κs. omega (arith, first-room (lending (c .before .before))))
     (λ c κs. search needs)
     (λ c κs. search needs)
     (λ c. omega (arith, c .least .ensures))

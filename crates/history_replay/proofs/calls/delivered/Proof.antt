@@ -22,23 +22,28 @@ use Rattle.history_replay.proofs.calls.delivered.Tie as tie
 
 abbrev counted : tie.After-burst-in → tie.After-places-in
 counted c =
-    let a = c .before .before .before in
-    let b = a .before .before .before in
-    b .before .before
+    let numbers = c .before .before .before in
+    let lengths = numbers .before .before .before in
+    lengths .before .before
 
 abbrev start : tie.After-place-count → tie.Start
-start c = c .before .before .before .before
+start c =
+    let entered = c .before in
+    entered .before .before .before
 
 abbrev burst : tie.After-totals-of → tie.After-burst-in
 burst c =
-    let a = c .before .before .before in
-    let b = a .before .before .before in
-    b .before
+    let bytes = c .before .before .before in
+    let places = bytes .before .before .before in
+    places .before
+
+abbrev lending : tie.After-places3 → tie.After-put-body
+lending c =
+    let part = c .before in
+    part .before .before .before
 
 abbrev body : tie.After-put-places → tie.After-put-body
-body c =
-    let a = c .before .before .before in
-    a .before .before .before
+body c = lending (c .before .before)
 
 -- ---- lengths
 
@@ -117,6 +122,12 @@ places-back c =
     (new b) (in-places (counted b)) (b .burst-in .kept .1 .1 .1 .1 .1 .1 .1 .0))
     ∙ new-length b
 
+put-places-requires : tie.Need-put-places-requires
+put-places-requires c κs =
+    let put = lending (c .before) in
+    let at = at-count put in
+    (places-back put, lent (step1 put .begun) (31 * m at) _ refl (omega (arith, room at)))
+
 returns : tie.Need-returns
 returns c =
     let put = c .before .before in
@@ -164,7 +175,7 @@ delivered-spec =
     (λ c. omega (arith, many (at-count (c .before .before .before))))
     (λ c. search needs)
     (λ c. search needs)
-    (λ c. all-back (c .before .before .before .before))
-    (λ c κs. (places-back (c .before .before .before .before .before), lent (step1 (c .before .before .before .before .before) .begun) (31 * m (at-count (c .before .before .before .before .before))) _ refl (omega (arith, room (at-count (c .before .before .before .before .before))))))
+    (λ c. all-back (lending c))
+    put-places-requires
     (λ c. begun-length (step2 (c .before .before) .begun))
     returns)

@@ -19,8 +19,8 @@ use Rattle.history_replay.proofs.calls.received.Tie as tie
 
 abbrev start : tie.After-least → tie.Start
 start c =
-    let b = c .before .before .before in
-    b .before .before .before
+    let number = c .before .before .before in
+    number .before .before .before
 
 -- the bytes that are lent are those that the record says
 lent-bytes : (c : tie.After-least)
@@ -31,14 +31,15 @@ lent-bytes c =
 
 abbrev least : tie.After-take → tie.After-least
 least c =
-    let b = c .before .before .before in
-    b .before .before .before .before
+    let copies = c .before .before .before in
+    let times = copies .before .before .before in
+    times .before
 
 abbrev took : tie.After-totals-of → tie.After-take
 took c =
-    let b = c .before .before .before in
-    let s = b .before .before .before in
-    s .before .before .before
+    let bytes = c .before .before .before in
+    let sent = bytes .before .before .before in
+    sent .before .before .before
 
 put-answered-requires : tie.Need-put-answered-requires
 put-answered-requires c κs = start (least (took (c .before .before))) .pre .1
@@ -48,8 +49,8 @@ returns c =
     let put = c .before .before in
     let form = put .before .before in
     let totals = form .before in
-    let arg = totals .before .before .before in
-    let sent = arg .before .before .before in
+    let bytes = totals .before .before .before in
+    let sent = bytes .before .before .before in
     let take = took totals in
     let at = least take in
     let r = now (start at .args .r) in

@@ -9,8 +9,8 @@ returns : tie.Need-returns
 returns c =
     let put = c .before .before in
     let totals = put .before .before in
-    let arg = totals .before .before .before in
-    let call = arg .before .before .before in
+    let bytes = totals .before .before .before in
+    let call = bytes .before .before .before in
     restored (totals .totals-of .ensures)
     (restored-as (call .before .lent-in .ensures) (call .restore .ensures)) (put .put-head .ensures)
 

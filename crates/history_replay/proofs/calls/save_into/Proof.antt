@@ -16,7 +16,8 @@ lent s =
 returns : tie.Need-returns
 returns c =
     let put = c .before .before in
-    let set = put .before .before .before .before in
+    let back = put .before .before in
+    let set = back .before .before in
     put .checkpoint .ensures ∙ ap (checkpointOf (stateAt (lent (set .before .before .before)))) (set .set-all .ensures)
 
 pub save-into-spec : {M : Type 1} → statement M

@@ -21,9 +21,10 @@ lent s =
 returns : tie.Need-returns
 returns c =
     let put = c .before .before in
-    let arg = put .before .before .before in
-    let first = arg .before .before .before in
-    let s = first .before .before .before .before in
+    let numbers = put .before .before .before in
+    let lengths = numbers .before .before .before in
+    let entered = lengths .before .before in
+    let s = entered .before .before in
     let a = s .args in
     saved (outputIn (now (a .r)))
     (put .put-wrote .ensures

@@ -12,7 +12,9 @@ use Rattle.history_replay.proofs.lent_lists.put_old.Statement.{statemen
 use Rattle.history_replay.proofs.lent_lists.put_old.Tie as tie
 
 abbrev start : tie.After-shared-slice-known3 → tie.Start
-start c = c .before .before .before .before
+start c =
+    let entered = c .before .before .before in
+    entered .before
 
 -- what is written, after each step
 abbrev step0 : tie.After-shared-slice-known3 → Writing 3

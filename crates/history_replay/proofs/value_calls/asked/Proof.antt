@@ -15,7 +15,9 @@ use Rattle.history_replay.proofs.value_calls.asked.Statement.{statement
 use Rattle.history_replay.proofs.value_calls.asked.Tie as tie
 
 abbrev start : tie.After-copies → tie.Start
-start c = c .before .before .before .before
+start c =
+    let number = c .before in
+    number .before .before .before
 
 -- what `copies` ensures, of the entry that the record says
 answer : (c : tie.After-copies)

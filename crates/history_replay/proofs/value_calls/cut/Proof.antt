@@ -61,16 +61,17 @@ first c =
 
 abbrev put : tie.After-restore → tie.After-put-wrote
 put c =
-    let b = c .before .before .before in
-    let n = b .before .before .before in
-    n .before
+    let fresh = c .before .before .before in
+    let back = fresh .before .before .before in
+    back .before
 
 -- what `restore` ensures of the image in it
 restored : (c : tie.After-restore) → Restores (c .before .before .before .fresh .result)
     (take imageLength (checkpointOf (viewOf (start (lengths (put c)) .args .c)) (output (lengths (put c))) .output))
     (c .restore .result)
 restored c =
-    let m = c .before .before .before .before in
+    let fresh = c .before .before .before in
+    let m = fresh .before in
     let at = lengths (put c) in
     restored-as-value
     (image-lent (viewOf (start at .args .c)) (output at) _ _ (m .least .result)
@@ -94,8 +95,8 @@ returns c =
 
 abbrev before-restore : tie.After-out2 → tie.After-put-wrote
 before-restore c =
-    let b = c .before .before .before in
-    b .before .before
+    let back = c .before .before .before in
+    back .before .before
 
 pub cut-spec : {M : Type 1} → statement M
 cut-spec =

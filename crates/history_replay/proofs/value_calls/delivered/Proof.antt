@@ -19,13 +19,17 @@ use Rattle.history_replay.proofs.value_calls.delivered.Tie as tie
 
 abbrev start : tie.After-burst-in → tie.Start
 start c =
-    let m = c .before .before in
-    m .before .before .before .before
+    let count = c .before .before in
+    let entered = count .before in
+    entered .before .before .before
+
+abbrev handed : tie.After-outcome-number → tie.After-burst-in
+handed c =
+    let bursted = c .before .before .before in
+    bursted .before
 
 abbrev made : tie.After-put-body → tie.After-burst-in
-made c =
-    let number = c .before .before in
-    number .before .before .before .before
+made c = handed (c .before .before)
 
 -- how many places there are
 many : (c : tie.After-burst-in) → c .before .before .place-count .result ≤ 259
@@ -59,7 +63,9 @@ step1 c =
     (c .put-body .kept .0) (omega arith) (omega arith))
 
 abbrev body : tie.After-put-replies → tie.After-put-body
-body c = c .before .before .before .before
+body c =
+    let back = c .before .before in
+    back .before .before
 
 abbrev step2 : (c : tie.After-put-replies) → Writing (58 + 31 * made (body c) .before .before .place-count .result)
 step2 c =
@@ -95,7 +101,7 @@ delivered-spec =
     (λ c κs. search needs)
     (λ c. search needs)
     (λ c. search needs)
-    (λ c. omega (arith, room (c .before .before .before .before)))
+    (λ c. omega (arith, room (handed c)))
     (λ c κs. search needs)
     (λ c. omega (arith, many (made (c .before .before))))
     (λ c. omega (arith, many (made (c .before .before))))

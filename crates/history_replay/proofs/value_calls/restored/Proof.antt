@@ -12,7 +12,8 @@ returns c =
     let put = c .before .before in
     let number = put .before .before in
     let t = number .before .before in
-    let a = t .before .before .before .before .before .args in
+    let entered = t .before .before in
+    let a = entered .before .before .before .args in
     restored-value {c = a .c} (restored-as-value (t .before .lent-in .ensures) (t .restore .ensures))
     (put .put-head .ensures
     ∙ λ i. headOf restoring (number .outcome-number .ensures i) (t .restore .result .next .summary .totals))

@@ -9,7 +9,8 @@ use Rattle.history_replay.proofs.value_calls.save_into.Tie as tie
 returns : tie.Need-returns
 returns c =
     let put = c .before .before in
-    let set = put .before .before .before .before in
+    let back = put .before .before in
+    let set = back .before .before in
     put .checkpoint .ensures ∙ ap (checkpointOf (viewOf (set .before .before .before .args .c))) (set .set-all .ensures)
 
 pub save-into-spec : {M : Type 1} → statement M

@@ -11,7 +11,8 @@ returns : tie.Need-returns
 returns c =
     let len = c .before .before in
     let put = len .before .before .before in
-    let r = now (put .before .before .before .before .args .r) in
+    let zeros = put .before .before in
+    let r = now (zeros .before .before .args .r) in
     λ i. record {
       answer = c .form-in .ensures i;
       sent = record {

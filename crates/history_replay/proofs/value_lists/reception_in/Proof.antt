@@ -13,7 +13,8 @@ returns : tie.Need-returns
 returns c =
     let number = c .before in
     let put = number .before .before in
-    let r = now (put .before .before .before .before .args .r) in
+    let zeros = put .before .before in
+    let r = now (zeros .before .before .args .r) in
     λ i. record {
       bytes = resized (getD r 9 0) ((put .put-bytes .ensures ∙ field-lent r 10 (omega arith)) i);
       time = number .number-at .ensures i;

@@ -21,7 +21,9 @@ abbrev μ-loop : tie.MeasureT-loop
 μ-loop calls lent out₀ now₀ at₀ i₀ i-end out now at i = i-end - i
 
 abbrev start : tie.At-loop Inv-loop μ-loop → tie.Start Inv-loop μ-loop
-start c = c .before .before .before .before
+start c =
+    let entered = c .before in
+    entered .before .before .before
 
 -- in a turn there is a whole record
 record-in : (c : tie.In-loop Inv-loop μ-loop)
@@ -45,6 +47,9 @@ room-now : (c : tie.After-size-in Inv-loop μ-loop)
     → turned c .before .loop .at + c .size-in .result ≤ length (turned c .before .loop .out)
 room-now c = within (turned c .before .loop .inv .made .begun) _ (room c)
 
+abbrev sized : tie.After-call Inv-loop μ-loop → tie.After-size-in Inv-loop μ-loop
+sized c = c .before .before .before
+
 call-requires : tie.Need-call-requires Inv-loop μ-loop
 call-requires c κs =
     let size = c .before .before in
@@ -56,7 +61,7 @@ call-requires c κs =
 loop-again : tie.Need-loop-again Inv-loop μ-loop
 loop-again c =
     let done = c .before .before in
-    let size = done .before .before .before in
+    let size = sized done in
     let t = turned size in
     let a = start (t .before) .args in
     let next =
@@ -97,7 +102,7 @@ all-spec =
     (λ c. omega (arith, room (c .before), room-now (c .before)))
     (λ c. room-now (c .before))
     call-requires
-    (λ c. omega (arith, room (c .before .before .before .before .before)))
+    (λ c. omega (arith, room (sized (c .before .before))))
     (λ c. omega arith)
     (λ c. omega arith)
     loop-again

@@ -17,7 +17,8 @@ use Rattle.history_replay.proofs.values.resume.Tie as tie
 returns : tie.Need-returns
 returns c =
     let test = c .before in
-    let a = test .before .before .before .before .args in
+    let entered = test .before in
+    let a = entered .before .before .before .args in
     let short : length (now (a .out)) < sizeOfAll (callsIn (now (a .lent)) (now (a .calls))) =
     omega (
       arith,

@@ -21,7 +21,8 @@ step1 c =
 
 abbrev step2 : tie.After-put-reply → Writing 81
 step2 c =
-    let at = c .before .before .before .before in
+    let back = c .before .before in
+    let at = back .before .before in
     packed (lend (step1 at .begun) _ _ 81 (c .put-reply .ensures) (c .put-reply .kept .0) (omega arith) (omega arith))
 
 returns : tie.Need-returns

@@ -22,7 +22,8 @@ step1 c =
 
 abbrev step2 : tie.After-put-number → Writing 58
 step2 c =
-    let at = c .before .before .before .before in
+    let back = c .before .before in
+    let at = back .before .before in
     packed
     (lend-sized (step1 at .begun) _ (λ w. be w (start at .args .count)) 58
     (c .put-number .ensures) (c .put-number .kept .0)

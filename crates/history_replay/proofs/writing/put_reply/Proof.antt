@@ -23,11 +23,12 @@ step1 c =
 
 abbrev step2 : tie.After-put-bytes → Writing 31
 step2 c =
-    let arg = c .before .before .before in
-    let at = arg .before .before in
+    let back = c .before .before .before in
+    let at = back .before .before in
+    let known = at .before .before .before in
     packed
     (lend-sized (step1 at .begun) _
-    (λ w. resized w (at .before .before .before .before .args .sent .bytes)) 31 (c .put-bytes .ensures)
+    (λ w. resized w (known .before .args .sent .bytes)) 31 (c .put-bytes .ensures)
     (c .put-bytes .kept .0)
     (omega arith) (omega arith))
 
