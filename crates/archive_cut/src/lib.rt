@@ -4,6 +4,7 @@ use archive_file::Opened;
 use base_refusal::Outcome;
 use base_refusal::Refusal;
 use block_layout::BLOCK_LENGTH;
+use block_layout::BODY_LENGTH;
 use block_layout::CELL_LENGTH;
 use block_layout::CELLS_PER_BLOCK;
 use block_layout::HEADER_LENGTH;
@@ -19,9 +20,6 @@ ghost use Rattle.archive_file.specs.Archive.{appendResult};
 ghost use Rattle.archive_cut.specs.Cut.{firstRows, cutBlockOf, cutOf};
 ghost use Rattle.archive_cut.specs.Calls.{cutBlockResult};
 ghost use Rattle.archive_cut.specs.Private.{keptRows};
-
-// The bytes of a block before its CRC.
-const BODY_LENGTH: usize = BLOCK_LENGTH - 1;
 
 // Keeps the first `rows` rows of a block: writes their count, zeros after them, and the CRC.
 fn keep_rows(block: &mut [u8], rows: usize)

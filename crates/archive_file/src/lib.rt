@@ -2,6 +2,7 @@
 use base_refusal::Outcome;
 use base_refusal::Refusal;
 use block_layout::BLOCK_LENGTH;
+use block_layout::BODY_LENGTH;
 use block_layout::CELL_CAPACITY;
 use block_layout::CELL_LENGTH;
 use block_layout::CELLS_PER_BLOCK;
@@ -26,9 +27,6 @@ ghost use Rattle.archive_file.specs.Private.{refusedScan, NoBlock, noRow
 pub const MAX_BLOCKS: usize = 4294967296;
 
 pub const MAX_ROWS: usize = CELLS_PER_BLOCK * MAX_BLOCKS;
-
-// The length of a block before its CRC.
-const BODY_LENGTH: usize = BLOCK_LENGTH - 1;
 
 // Where the bytes of a cell begin, and its last two.
 const FIELD: usize = 9;

@@ -3,6 +3,7 @@ use archive_file::Opened;
 use base_refusal::Outcome;
 use base_refusal::Refusal;
 use block_layout::BLOCK_LENGTH;
+use block_layout::BODY_LENGTH;
 use block_layout::CELL_LENGTH;
 use block_layout::CELLS_PER_BLOCK;
 use block_layout::HEADER_LENGTH;
@@ -33,9 +34,6 @@ pub const MAX_IDENTITIES: usize = 32;
 const FULL_LENGTH: usize = CELL_LENGTH * CELLS_PER_BLOCK;
 
 pub const PENDING_LENGTH: usize = FULL_LENGTH + FULL_LENGTH;
-
-// The length of a block before its CRC.
-const BODY_LENGTH: usize = BLOCK_LENGTH - 1;
 
 // Where the bytes of a cell begin.
 const FIELD: usize = 9;

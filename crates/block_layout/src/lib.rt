@@ -20,7 +20,7 @@ pub const HEADER_LENGTH: usize = 24;
 pub const CELLS_PER_BLOCK: usize = 15;
 
 // The length of a block before its CRC.
-const BODY_LENGTH: usize = 511;
+pub const BODY_LENGTH: usize = 511;
 
 pub const BLOCK_LENGTH: usize = 512;
 
