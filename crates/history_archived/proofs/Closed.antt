@@ -1,19 +1,28 @@
 -- What lines close, as bytes, line by line and call by call.
-use Prim.Native.Nat.{ℕ, _<_}
+use Prim.Native.Nat.{ℕ, _*_, _<_}
 use native.Mathlib.Omega.{arith}
 use mathlib.Core.Path.{_≡_, refl, sym, ap, _∙_}
-use mathlib.Core.Bool.{true}
+use mathlib.Core.Bool.{Bool, true, false, cond}
 use mathlib.Core.List.{List, [], _∷_, _++_, map, flatten, append-nil, map-append}
-use lib.ListN.{length}
-use borrow.Author.Tests.{ne-eqb}
+use lib.ListN.{length, length-append}
+use borrow.Author.Tests.{ne-eqb, eqb-true}
+use Rattle.base_lists.specs.Lists.{keep, all}
+use Rattle.base_lists.proofs.Choice.{both}
 use Rattle.base_lists.proofs.Parts.{flatten-append}
+use Rattle.base_lists.proofs.Tests.{by-test}
+use Rattle.radio_erp1.specs.Subtelegram.{checkOf}
+use Rattle.radio_erp1.proofs.Checks.{check-facts}
+use Rattle.block_layout.specs.Cell.{cellLength}
+use Rattle.block_layout.proofs.Cell.{cell-length}
 use Rattle.collector_model.specs.View.{Reception, Entry, View, fresh}
+use Rattle.collector_model.specs.Answer.{isAccepted}
+use Rattle.collector_model.specs.Acceptable.{isEntry}
 use Rattle.collector_model.specs.Step.{step}
 use Rattle.collector_model.specs.Reference.{pastAfter}
 use Rattle.collector_model.specs.History.{Timely}
 use Rattle.collector_model.specs.Image.{entryCell}
-use Rattle.collector_model.proofs.Invariant.{Good, good-fresh}
-use Rattle.history_rows.specs.Closings.{closedFrom, closingsFrom}
+use Rattle.collector_model.proofs.Invariant.{Good, good-fresh, good-advance, classified, entry-valid}
+use Rattle.history_rows.specs.Closings.{closedAt, closedFrom, closingsFrom}
 use Rattle.history_rows.proofs.Closings.{views-closed-once}
 use Rattle.collector_closings.specs.Cells.{entryCells, closedCells}
 use Rattle.text_lines.specs.declared.Setting.{Setting}
@@ -118,6 +127,60 @@ past-lines (l ∷ ls) past =
 
 pub lines-close-once : LinesCloseOnce
 lines-close-once ls = rw (past-lines ls []) at (views-closed-once (handedOver ls) (timely ls))
+
+-- ---- 32 bytes for each
+
+cell-sized : (latest : ℕ) (e : Entry) → isEntry latest e ≡ true → length (entryCell e) ≡ cellLength
+cell-sized latest e k =
+    let valid = eqb-true (checkOf (e .bytes)) 0 (entry-valid latest e k) in
+    cell-length (e .time) (e .bytes) (e .copies) (check-facts (e .bytes) valid .high)
+
+some-sized : (latest : ℕ) (p : Entry → Bool) (l : List Entry) → all (isEntry latest) l ≡ true
+    → length (entryCells (keep p l)) ≡ cellLength * length (keep p l)
+unfolding entryCells flatten
+some-sized latest p [] h = refl
+some-sized latest p (e ∷ l) h =
+    let w = both (isEntry latest e) (all (isEntry latest) l) h in
+    let rest = some-sized latest p l (w .1) in
+    let long = length-append (entryCell e) (entryCells (keep p l)) in
+    by-test (p e) (λ t. rw t (omega (arith, long, cell-sized latest e (w .0), rest))) (λ f. rw f rest)
+
+one-sized : (v : View) (r : Reception) → Good v → (b : Bool)
+    → length (entryCells (cond b (closedAt (r .time) (v .entries)) []))
+    ≡ cellLength * length (cond b (closedAt (r .time) (v .entries)) [])
+unfolding entryCells flatten
+one-sized v r g true = some-sized (v .latest) _ (v .entries) (g .entries .each)
+one-sized v r g false = refl
+
+from-sized : (rs : List Reception) (v : View) → Good v → Timely rs
+    → length (entryCells (closingsFrom v rs)) ≡ cellLength * length (closingsFrom v rs)
+unfolding entryCells flatten step
+from-sized [] v g t = refl
+from-sized (r ∷ rs) v g t =
+    let first = closedFrom v r (step v r .answer) in
+    let rest = closingsFrom (step v r .next) rs in
+    let next = good-advance v r g (t .0) (classified v r) in
+    ap length (cells-append first rest)
+    ∙ omega (
+      arith,
+      length-append (entryCells first) (entryCells rest),
+      length-append first rest,
+      one-sized v r g (isAccepted (step v r .answer)),
+      from-sized rs (step v r .next) next (t .1),
+    )
+
+pub closed-sized : (input : List ℕ) → length (entryCells (closedOf input)) ≡ cellLength * length (closedOf input)
+unfolding closedOf entryCells flatten
+closed-sized input = go (linesOf input)
+  where
+    behind : (x : Setting) (ls : List (List ℕ))
+        → length (entryCells (closedWith x ls)) ≡ cellLength * length (closedWith x ls)
+    behind (Setting.Level n) ls = from-sized (handedOver ls) fresh good-fresh (timely ls)
+    behind Setting.Bad ls = refl
+
+    go : (ls : List (List ℕ)) → length (entryCells (closedFor ls)) ≡ cellLength * length (closedFor ls)
+    go [] = refl
+    go (l ∷ ls) = behind (settingOf l) ls
 
 -- ---- calls
 

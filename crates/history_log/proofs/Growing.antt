@@ -6,17 +6,20 @@ use mathlib.Core.Bool.{true, false}
 use mathlib.Core.List.{List, [], _∷_, _++_, append-assoc, append-nil}
 use lib.Dec.{ltb, eqb}
 use lib.ListN.{length, take, drop}
+use lib.Seq.{sets, sets-eq}
 use borrow.Author.Tests.{ltb-true, lt-ltb, le-ltb, eq-eqb, ne-eqb, lt-leb}
-use borrow.Rule.Slice.PartMut.{putMid, post-is}
+use borrow.Rule.Slice.PartMut.{midOf, putMid, post-is}
 use Rattle.base_lists.specs.Lists.{all}
 use Rattle.base_lists.proofs.Choice.{both}
 use Rattle.base_lists.proofs.Tests.{by-test, all-both}
+use Rattle.block_layout.specs.Cell.{cellLength}
 use Rattle.block_layout.specs.Block.{cellsPerBlock, blockLength}
 use Rattle.base_buffers.specs.Buffer.{part}
 use Rattle.base_buffers.proofs.Segments.{part-length, part-ends}
+use Rattle.collector_state.proofs.Moving.{put-copied}
 use Rattle.archive_model.specs.Row.{Row, isRow}
 use Rattle.archive_model.specs.Buffer.{maxRows, rowsIn}
-use Rattle.archive_model.specs.Append.{Appended, verdict, stored, blockAt, isNext, appendOf, appendAtOf}
+use Rattle.archive_model.specs.Append.{Appended, stored, blockAt, isNext, appendOf, appendAtOf}
 use Rattle.archive_model.specs.Claims.{isFit}
 use Rattle.archive_model.proofs.Cursor.{verdict-facts, blocks-of, cursor}
 use Rattle.archive_fill.specs.Fill.{rowLength, rowsGiven, putRows, putRowsOf, putRowsGiven}
@@ -125,3 +128,14 @@ module _ (archive : List ℕ) (n : ℕ) (times records : List ℕ) where
       (ap₂ (λ (x y : List ℕ). take at archive ++ (x ++ y)) given (post-is at (at + blockLength) archive (omega arith))
       ∙ sym (append-assoc (take at archive) (putRowsOf (blockAt (n / cellsPerBlock) archive) n rows .buffer)
       (drop (at + blockLength) archive)))
+
+-- ---- the bytes of what closed
+
+pub closings-there : (heard : List ℕ) (m : ℕ) (cells ys : List ℕ) → cellLength * m + length cells ≤ length heard
+    → ys ≡ take (length cells) cells
+    ++ drop (length cells) (midOf (cellLength * m) (length heard - cellLength * m) heard)
+    → putMid (cellLength * m) (length heard - cellLength * m) heard ys ≡ sets heard (cellLength * m) cells
+closings-there heard m cells ys h e =
+    let at = cellLength * m in
+    put-copied at cells heard ys h e ∙ sym (append-assoc (take at heard) cells (drop (at + length cells) heard))
+    ∙ sym (sets-eq cells heard at h)

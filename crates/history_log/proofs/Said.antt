@@ -1,8 +1,11 @@
 -- What a text gives in parts: whole lines first, a last line without a newline, the first line of a log.
 --     out-more, out-last            a program over whole lines and what is behind them; over a last line
 --     said-more, said-last, no-more the same of the rows
+--     closed-more, closed-last, none-closes  and of what closes
 --     all-used                      a line with its newline is taken whole
---     first-said, none-said         a log behind its first line; one that has no right first line
+--     first-out, none-out           a program over a log behind its first line; over one that has no right first line
+--     first-said, none-said         the same of the rows
+--     first-closed, none-closed     and of what closes
 use mathlib.Core.Path.{_≡_, refl, sym, ap, ap₂, _∙_}
 use mathlib.Core.Bool.{Bool, true, false, cond}
 use mathlib.Core.List.{List, [], _∷_, _++_, append-assoc, append-nil}
@@ -16,6 +19,7 @@ use Rattle.bytes.specs.Bytes.{indexOf}
 use Rattle.base_lists.specs.Lists.{equal, upFrom}
 use Rattle.base_lists.proofs.Tests.{branch, by-test}
 use Rattle.collector_model.specs.View.{fresh}
+use Rattle.collector_closings.specs.Cells.{entryCells}
 use Rattle.text_lines.specs.Ascii.{newline}
 use Rattle.text_lines.specs.declared.Setting.{Setting}
 use Rattle.text_lines.specs.Reading.{levelLine, settingOf, lineLimit}
@@ -49,12 +53,17 @@ use Rattle.text_program.proofs.Segments.{
 use Rattle.archive_fill.specs.Fill.{rowLength, rowsGiven}
 use Rattle.text_collect.specs.Session.{Receiver, modelCollector, runningAt}
 use Rattle.text_collect.specs.Rows.{rowTimes, rowRecords}
+use Rattle.text_collect.specs.Heard.{lineClosings}
 use Rattle.text_collect.proofs.Storing.{times-bounded, records-bounded}
+use Rattle.text_collect.proofs.Turns.{closings-bounded}
 use Rattle.c_lines.specs.Calls.{levelNumber, firstNumber, firstUsed}
 use Rattle.history_archived.specs.Archived.{archivedOf}
+use Rattle.history_archived.specs.Closed.{closedOf}
 use Rattle.history_archived.specs.Claims.{rowsSaid}
 use Rattle.history_archived.proofs.Given.{given-append}
 use Rattle.history_archived.proofs.Archived.{over-silent, log-archived}
+use Rattle.history_archived.proofs.Closed.{log-closed}
+use Rattle.history_log.specs.Private.{cellsGiven, cellsSaid}
 
 -- ---- a program over a text in parts
 
@@ -85,7 +94,8 @@ module _ (p : Program (Phase Receiver)) (b : Bounded p lineLimit) where
       let l = left p lineLimit (none p lineLimit s) y o in
       sym (all-given s y) ∙ rw (l .0, l .1)
 
-  last-full : (s : Phase Receiver) (l : List ℕ) → 0 < length l → lastText p s l ≡ p .text s l ++ p .end (p .next s l)
+  pub last-full : (s : Phase Receiver) (l : List ℕ) → 0 < length l
+      → lastText p s l ≡ p .text s l ++ p .end (p .next s l)
   unfolding lastText
   last-full s [] h = absurd (omega arith)
   last-full s (c ∷ l) h = refl
@@ -118,6 +128,20 @@ said-last s y o some = ap₂ rowsGiven (out-last rowTimes times-bounded s y o so
 pub no-more : (s : Phase Receiver) → rowsSaid s [] ≡ []
 unfolding rowsGiven upFrom
 no-more s = ap₂ rowsGiven (out-none rowTimes times-bounded s) (out-none rowRecords records-bounded s)
+
+-- ---- what closes
+
+pub closed-more : (s s' : Phase Receiver) (x y : List ℕ)
+    → feed (lineClosings true) lineLimit (atLineStart s) x ≡ atLineStart s'
+    → cellsSaid s (x ++ y) ≡ cellsGiven s x ++ cellsSaid s' y
+closed-more s s' x y e = out-more (lineClosings true) (closings-bounded true) y (record { state = e; text = refl })
+
+pub closed-last : (s : Phase Receiver) (y : List ℕ) → isUnended y ≡ true → 0 < length y
+    → cellsSaid s y ≡ cellsSaid s (take lineLimit y ++ (newline ∷ []))
+closed-last s y o some = out-last (lineClosings true) (closings-bounded true) s y o some
+
+pub none-closes : (s : Phase Receiver) → cellsSaid s [] ≡ []
+none-closes s = out-none (lineClosings true) (closings-bounded true) s
 
 -- ---- a line with its newline
 
@@ -167,6 +191,10 @@ level-few l n =
     (λ _ e. let z : n ≡ 2 = cc in omega arith)
     λ _ e. let z : _≡_ {A = ℕ} 0 1 = cc in absurd (omega arith)
 
+pub first-level : (x : Setting) (setting : ℕ) → setting ≡ levelNumber x → setting ≤ 2 → x ≡ Setting.Level setting
+first-level (Setting.Level n) setting e h = ap Setting.Level (sym e)
+first-level Setting.Bad setting e h = absurd (omega arith)
+
 module _ (log : List ℕ) where
   abbrev end : ℕ
   end = indexOf newline log
@@ -174,70 +202,94 @@ module _ (log : List ℕ) where
   abbrev line : List ℕ
   line = take end log
 
-  -- a line ends, and the rest of the log is taken from where it leads
-  behind : end < length log → archivedOf log ≡ rowsSaid (afterFirst modelCollector (settingOf line))
-      (drop (end + 1) log)
-  unfolding rowsGiven upFrom
-  behind h =
-      let o = open-before log in
-      let d = more rowTimes lineLimit times-bounded (none rowTimes lineLimit starting) line o in
-      let e = more rowRecords lineLimit records-bounded (none rowRecords lineLimit starting) line o in
-      let up = up-to-newline log 0 end refl h in
-      let n : 0 + end + 1 ≡ end + 1 = omega arith in
-      let x : take (end + 1) log ≡ line ++ (newline ∷ []) = rw n at up in
-      sym (log-archived log) ∙ ap (rowsSaid starting) (sym (take-append-drop (end + 1) log)
-      ∙ ap (λ (l : List ℕ). l ++ drop (end + 1) log) x)
-      ∙ said-more (drop (end + 1) log) d e (omega arith)
-
-  pub first-level : (x : Setting) (setting : ℕ) → setting ≡ levelNumber x → setting ≤ 2 → x ≡ Setting.Level setting
-  first-level (Setting.Level n) setting e h = ap Setting.Level (sym e)
-  first-level Setting.Bad setting e h = absurd (omega arith)
-
-  pub first-said : (setting : ℕ) → setting ≡ firstNumber log → setting ≤ 2
-      → archivedOf log ≡ rowsSaid (runningAt setting fresh) (drop (firstUsed log) log)
-  first-said setting e h =
-      by-test (ltb end (length log))
-      (λ t.
-      let l = first-level (settingOf line) setting (rw t at e) h in
-      rw t (behind (ltb-true end (length log) t) ∙ rw l))
-      (λ f. absurd (let q : setting ≡ 4 = rw f at e in omega arith))
-
-  over-said : (y : List ℕ) → rowsSaid over y ≡ []
-  unfolding outputOf rowsGiven upFrom
-  over-said y =
-      ap₂ (λ (x y : List ℕ). rowsGiven (x ++ []) (y ++ [])) (over-silent rowTimes (λ l. refl) (λ l. refl) (linesOf y))
-      (over-silent rowRecords (λ l. refl) (λ l. refl) (linesOf y))
-
-  -- a log of one line without a newline
-  silent : (p : Program (Phase Receiver)) → ((l : List ℕ) → p .text starting l ≡ [])
-      → ((s : Phase Receiver) → p .end s ≡ []) → (l : List ℕ) → lastText p starting l ≡ []
-  unfolding lastText
-  silent p t e [] = e starting
-  silent p t e (c ∷ l) = rw (t (c ∷ l), e (p .next starting (c ∷ l)))
-
-  alone : length log ≤ end → archivedOf log ≡ []
-  unfolding rowsGiven upFrom
-  alone h =
-      let o = open-whole log h in
-      sym (log-archived log)
-      ∙ ap₂ rowsGiven (out-open rowTimes times-bounded starting log o
-      ∙ silent rowTimes (λ l. refl) (λ s. refl) (take lineLimit log))
-      (out-open rowRecords records-bounded starting log o
-      ∙ silent rowRecords (λ l. refl) (λ s. refl) (take lineLimit log))
-
-  pub none-said : 2 < firstNumber log → archivedOf log ≡ []
-  none-said h =
-      by-test (ltb end (length log))
-      (λ t. behind (ltb-true end (length log) t) ∙ go (settingOf line) refl (rw t at h))
-      (λ f. alone (ltb-false end (length log) f))
-    where
-      go : (x : Setting) → settingOf line ≡ x → 2 < levelNumber x
-          → rowsSaid (afterFirst modelCollector x) (drop (end + 1) log) ≡ []
-      go (Setting.Level n) e k = absurd (omega (arith, level-few line n e))
-      go Setting.Bad e k = over-said (drop (end + 1) log)
-
   pub first-within : firstUsed log ≤ length log
   first-within =
       by-test (ltb end (length log))
       (λ t. rw t (omega (arith, ltb-true end (length log) t)))
       (λ f. rw f (omega arith))
+
+  -- a line ends in which a program is silent, and the rest is taken from where it leads
+  pub behind-line : (p : Program (Phase Receiver)) → Bounded p lineLimit → (s s' : Phase Receiver)
+      → p .text s line ≡ [] → p .next s line ≡ s' → end < length log
+      → outputOf p s log ≡ outputOf p s' (drop (end + 1) log)
+  behind-line p b s s' silent steps h =
+      let d = more p lineLimit b (none p lineLimit s) line (open-before log) in
+      let up = up-to-newline log 0 end refl h in
+      let n : 0 + end + 1 ≡ end + 1 = omega arith in
+      let x : take (end + 1) log ≡ line ++ (newline ∷ []) = rw n at up in
+      let split = sym (take-append-drop (end + 1) log) ∙ ap (λ (l : List ℕ). l ++ drop (end + 1) log) x in
+      ap (outputOf p s) split ∙ out-more p b (drop (end + 1) log) d
+      ∙ ap₂ (λ (t : List ℕ) (q : Phase Receiver). t ++ outputOf p q (drop (end + 1) log)) silent steps
+
+  -- a program that is silent in the first line
+  module _ (p : Program (Phase Receiver)) (b : Bounded p lineLimit)
+      (steps : (l : List ℕ) → p .next starting l ≡ afterFirst modelCollector (settingOf l))
+      (silent : (l : List ℕ) → p .text starting l ≡ []) where
+    behind : end < length log
+        → outputOf p starting log ≡ outputOf p (afterFirst modelCollector (settingOf line)) (drop (end + 1) log)
+    behind h = behind-line p b starting (afterFirst modelCollector (settingOf line)) (silent line) (steps line) h
+
+    pub first-out : (setting : ℕ) → setting ≡ firstNumber log → setting ≤ 2
+        → outputOf p starting log ≡ outputOf p (runningAt setting fresh) (drop (firstUsed log) log)
+    first-out setting e h =
+        by-test (ltb end (length log))
+        (λ t.
+        let l = first-level (settingOf line) setting (rw t at e) h in
+        rw t (behind (ltb-true end (length log) t) ∙ rw l))
+        (λ f. absurd (let q : setting ≡ 4 = rw f at e in omega arith))
+
+    pub none-out : (x : List ℕ) → ((y : List ℕ) → outputOf p over y ≡ x)
+        → ((l : List ℕ) → lastText p starting l ≡ x)
+        → 2 < firstNumber log → outputOf p starting log ≡ x
+    none-out x ended alone h =
+        by-test (ltb end (length log))
+        (λ t. behind (ltb-true end (length log) t) ∙ go (settingOf line) refl (rw t at h))
+        (λ f. out-open p b starting log (open-whole log (ltb-false end (length log) f)) ∙ alone (take lineLimit log))
+      where
+        go : (s : Setting) → settingOf line ≡ s → 2 < levelNumber s
+            → outputOf p (afterFirst modelCollector s) (drop (end + 1) log) ≡ x
+        go (Setting.Level n) e k = absurd (omega (arith, level-few line n e))
+        go Setting.Bad e k = ended (drop (end + 1) log)
+
+  -- a program that gives nothing outside a run
+  module _ (p : Program (Phase Receiver)) (b : Bounded p lineLimit)
+      (steps : (l : List ℕ) → p .next starting l ≡ afterFirst modelCollector (settingOf l))
+      (silent : (l : List ℕ) → p .text starting l ≡ []) (stays : (l : List ℕ) → p .next over l ≡ over)
+      (ended : (l : List ℕ) → p .text over l ≡ []) (quiet : (s : Phase Receiver) → p .end s ≡ []) where
+    alone : (l : List ℕ) → lastText p starting l ≡ []
+    unfolding lastText
+    alone [] = quiet starting
+    alone (c ∷ l) = rw (silent (c ∷ l), quiet (p .next starting (c ∷ l)))
+
+    out-over : (y : List ℕ) → outputOf p over y ≡ []
+    unfolding outputOf
+    out-over y = rw (over-silent p ended stays (linesOf y), quiet (stateAfter p over (linesOf y)))
+
+    nothing-out : 2 < firstNumber log → outputOf p starting log ≡ []
+    nothing-out h = none-out p b steps silent [] out-over alone h
+
+  pub first-said : (setting : ℕ) → setting ≡ firstNumber log → setting ≤ 2
+      → archivedOf log ≡ rowsSaid (runningAt setting fresh) (drop (firstUsed log) log)
+  first-said setting e h =
+      sym (log-archived log)
+      ∙ ap₂ rowsGiven (first-out rowTimes times-bounded (λ l. refl) (λ l. refl) setting e h)
+      (first-out rowRecords records-bounded (λ l. refl) (λ l. refl) setting e h)
+
+  pub none-said : 2 < firstNumber log → archivedOf log ≡ []
+  unfolding rowsGiven upFrom
+  none-said h =
+      let t = nothing-out rowTimes times-bounded (λ l. refl) (λ l. refl) (λ l. refl) (λ l. refl) (λ s. refl) h in
+      let r = nothing-out rowRecords records-bounded (λ l. refl) (λ l. refl) (λ l. refl) (λ l. refl) (λ s. refl) h in
+      sym (log-archived log) ∙ ap₂ rowsGiven t r
+
+  pub first-closed : (setting : ℕ) → setting ≡ firstNumber log → setting ≤ 2
+      → entryCells (closedOf log) ≡ cellsSaid (runningAt setting fresh) (drop (firstUsed log) log)
+  first-closed setting e h =
+      sym (log-closed log)
+      ∙ first-out (lineClosings true) (closings-bounded true) (λ l. refl) (λ l. refl) setting e h
+
+  pub none-closed : 2 < firstNumber log → entryCells (closedOf log) ≡ []
+  none-closed h =
+      sym (log-closed log)
+      ∙ nothing-out (lineClosings true) (closings-bounded true) (λ l. refl) (λ l. refl) (λ l. refl) (λ l. refl)
+      (λ s. refl) h

@@ -3,15 +3,11 @@
 --     state-whole                            a log: the reference model's collector
 --     first-state, none-state                behind the first line of a log; where that is not right
 use Prim.Native.Nat.{ℕ, _+_, _≤_, _<_}
-use native.Mathlib.Omega.{arith}
-use mathlib.Core.Path.{_≡_, refl, sym, ap, ap₂, _∙_}
+use mathlib.Core.Path.{_≡_, refl, ap, _∙_}
 use mathlib.Core.Bool.{Bool, true, false, cond}
 use mathlib.Core.List.{List, [], _∷_, _++_}
-use lib.Dec.{eqb, ltb}
-use lib.ListN.{length, take, drop, take-append-drop}
-use borrow.Author.Tests.{ltb-true, ltb-false}
-use Rattle.bytes.specs.Bytes.{indexOf}
-use Rattle.base_lists.proofs.Tests.{by-test}
+use lib.Dec.{eqb}
+use lib.ListN.{length, take, drop}
 use Rattle.collector_model.specs.View.{View, fresh}
 use Rattle.collector_model.specs.Image.{imageOf}
 use Rattle.collector_model.specs.Reference.{logOf, modelView}
@@ -21,23 +17,23 @@ use Rattle.text_lines.specs.Ascii.{newline}
 use Rattle.text_lines.specs.declared.Setting.{Setting}
 use Rattle.text_lines.specs.Reading.{Reading, reception, bad, settingOf, lineReading, lineLimit}
 use Rattle.text_program.specs.Lines.{linesOf, stateAfter, textOf, outputOf}
-use Rattle.text_program.specs.Chunks.{Position, Bounded, atLineStart, fed, fedText, feed, feedText, lastText}
+use Rattle.text_program.specs.Chunks.{Position, Bounded, atLineStart, fed, feed, feedText, lastText}
 use Rattle.text_program.specs.Collect.{Phase, starting, running, over, afterFirst, afterLine}
 use Rattle.text_program.specs.Buffer.{isUnended}
-use Rattle.text_program.proofs.Segments.{Drained, none, more, open-before, open-whole, up-to-newline}
+use Rattle.text_program.proofs.Segments.{Drained}
 use Rattle.text_collect.specs.Session.{Receiver, modelCollector, runningAt}
 use Rattle.text_collect.specs.Rows.{rowTimes}
 use Rattle.text_collect.proofs.Storing.{times-bounded}
 use Rattle.journal_model.specs.Rows.{viewAfter, viewAfterLines}
 use Rattle.journal_model.proofs.Rows.{took-all}
-use Rattle.c_lines.specs.Calls.{levelNumber, firstNumber, firstUsed}
+use Rattle.c_lines.specs.Calls.{firstNumber, firstUsed}
 use Rattle.history_log.specs.Keep.{pastWith, pastFor, stateAfterLog}
 use Rattle.history_log.specs.Private.{imageAt, states}
-use Rattle.history_log.proofs.Said.{out-more, out-none, out-open, out-last, level-few, first-level}
+use Rattle.history_log.proofs.Said.{out-more, out-none, out-last, first-out, none-out}
 
 -- ---- parts of a text
 
-states-bounded : Bounded states lineLimit
+pub states-bounded : Bounded states lineLimit
 states-bounded = record { next = λ s l. times-bounded .next s l; text = λ s l. refl }
 
 feed-states : (x : List ℕ) (a : Position (Phase Receiver)) → feed states lineLimit a x ≡ feed rowTimes lineLimit a x
@@ -70,7 +66,7 @@ state-none s = out-none states states-bounded s
 
 -- ---- lines
 
-no-text : (ls : List (List ℕ)) (s : Phase Receiver) → textOf states s ls ≡ []
+pub no-text : (ls : List (List ℕ)) (s : Phase Receiver) → textOf states s ls ≡ []
 unfolding textOf
 no-text [] s = refl
 no-text (l ∷ ls) s = no-text ls (states .next s l)
@@ -96,7 +92,7 @@ running-after setting (l ∷ ls) v = go (lineReading l) (λ w. running-after set
 good-start : Good (modelView (logOf []))
 good-start = rw fresh-model at good-fresh
 
-first-after : (x : Setting) (ls : List (List ℕ))
+pub first-after : (x : Setting) (ls : List (List ℕ))
     → imageAt (stateAfter states (afterFirst modelCollector x) ls) ≡ imageOf (modelView (logOf (pastWith x ls)))
 first-after (Setting.Level n) ls =
     ap imageAt (running-after n ls fresh) ∙ ap (λ (v : View). imageOf (viewAfterLines v ls)) fresh-model
@@ -119,33 +115,9 @@ unfolding outputOf
 over-state y = rw (no-text (linesOf y) over, over-after (linesOf y))
 
 module _ (log : List ℕ) where
-  abbrev end : ℕ
-  end = indexOf newline log
-
-  abbrev line : List ℕ
-  line = take end log
-
-  behind : end < length log
-      → outputOf states starting log ≡ outputOf states (afterFirst modelCollector (settingOf line)) (drop (end + 1) log)
-  behind h =
-      let o = open-before log in
-      let d = more rowTimes lineLimit times-bounded (none rowTimes lineLimit starting) line o in
-      let up = up-to-newline log 0 end refl h in
-      let n : 0 + end + 1 ≡ end + 1 = omega arith in
-      let x : take (end + 1) log ≡ line ++ (newline ∷ []) = rw n at up in
-      let split = sym (take-append-drop (end + 1) log) ∙ ap (λ (l : List ℕ). l ++ drop (end + 1) log) x in
-      ap (outputOf states starting) split
-      ∙ state-more starting (afterFirst modelCollector (settingOf line)) (line ++ (newline ∷ [])) (drop (end + 1) log)
-      (d .state)
-
   pub first-state : (setting : ℕ) → setting ≡ firstNumber log → setting ≤ 2
       → outputOf states starting log ≡ outputOf states (runningAt setting fresh) (drop (firstUsed log) log)
-  first-state setting e h =
-      by-test (ltb end (length log))
-      (λ t.
-      let l = first-level log (settingOf line) setting (rw t at e) h in
-      rw t (behind (ltb-true end (length log) t) ∙ rw l))
-      (λ f. absurd (let q : setting ≡ 4 = rw f at e in omega arith))
+  first-state setting e h = first-out log states states-bounded (λ l. refl) (λ l. refl) setting e h
 
   alone : (l : List ℕ) → lastText states starting l ≡ imageOf fresh
   unfolding lastText
@@ -157,13 +129,4 @@ module _ (log : List ℕ) where
       go Setting.Bad = refl
 
   pub none-state : 2 < firstNumber log → outputOf states starting log ≡ imageOf fresh
-  none-state h =
-      by-test (ltb end (length log))
-      (λ t. behind (ltb-true end (length log) t) ∙ go (settingOf line) refl (rw t at h))
-      (λ f. out-open states states-bounded starting log (open-whole log (ltb-false end (length log) f))
-      ∙ alone (take lineLimit log))
-    where
-      go : (x : Setting) → settingOf line ≡ x → 2 < levelNumber x
-          → outputOf states (afterFirst modelCollector x) (drop (end + 1) log) ≡ imageOf fresh
-      go (Setting.Level n) e k = absurd (omega (arith, level-few line n e))
-      go Setting.Bad e k = over-state (drop (end + 1) log)
+  none-state h = none-out log states states-bounded (λ l. refl) (λ l. refl) (imageOf fresh) over-state alone h

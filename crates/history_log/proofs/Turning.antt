@@ -1,16 +1,19 @@
--- A text taken turn by turn: what was said so far stands in the archive, and what is left says the rest.
-use Prim.Native.Nat.{ℕ, _+_, _*_, _%_, _≤_, _<_}
+-- A text taken turn by turn: what was said so far stands in the archive and among the closings, and what is left says
+-- the rest.
+use Prim.Native.Nat.{ℕ, _+_, _*_, _≤_, _<_}
 use native.Mathlib.Omega.{arith}
 use mathlib.Core.Path.{_≡_, refl, sym, ap, _∙_}
-use mathlib.Core.Bool.{Bool, true, false, cond, _&&_, false≢true, true≢false}
+use mathlib.Core.Bool.{Bool, true, false, _&&_, false≢true}
 use mathlib.Core.List.{List, [], _∷_, _++_, append-assoc, append-nil}
 use lib.Dec.{leb}
 use lib.ListN.{length, take, drop, length-append, length-drop, take-append-drop, drop-of-length-le}
-use lib.Seq.{drop-drop}
+use lib.Seq.{sets, drop-drop}
 use borrow.Author.Tests.{le-leb, lt-leb, leb-true, leb-false}
 use Rattle.base_lists.specs.Lists.{all}
-use Rattle.base_lists.proofs.Tests.{all-parts, by-test}
-use Rattle.block_layout.specs.Block.{cellsPerBlock, blockLength}
+use Rattle.base_lists.proofs.Choice.{both}
+use Rattle.base_lists.proofs.Tests.{all-parts, and-true, by-test}
+use Rattle.base_buffers.proofs.Stores.{then}
+use Rattle.block_layout.specs.Cell.{cellLength}
 use Rattle.collector_model.specs.Exact.{Fits}
 use Rattle.collector_model.specs.Image.{imageOf}
 use Rattle.collector_model.proofs.Invariant.{Good, good-acceptable, good-of}
@@ -37,58 +40,116 @@ use Rattle.history_log.specs.Private.{
   Holds,
   putIn,
   Grown,
+  Outputs,
+  outputs,
+  OutputsFit,
+  haveRoom,
   phaseAt,
   timesGiven,
   recordsGiven,
-  Callable,
+  cellsGiven,
+  cellsSaid,
   Ready,
   Turned,
   TextPassed,
   states,
   Went,
 }
-use Rattle.history_log.proofs.Said.{said-more, said-last, no-more, all-used}
+use Rattle.history_log.proofs.Said.{
+  said-more,
+  said-last,
+  no-more,
+  closed-more,
+  closed-last,
+  none-closes,
+  all-used,
+}
 use Rattle.history_log.proofs.States.{state-more, state-last, state-none}
 use Rattle.history_log.proofs.Growing.{put-grown}
 
--- of a text that is taken from s₀ on, the first `at` characters were taken, and the archive has n rows with theirs
-pub record Going (write : Bool) (s₀ : Phase Receiver) (input archive₀ : List ℕ) (n₀ : ℕ) (s : Phase Receiver)
-    (archive : List ℕ) (at n : ℕ) : Type 0 where
+-- ---- room
+
+less-room : (a a' b c c' d : ℕ) → leb a b && leb c d ≡ false → a ≤ a' → c ≤ c' → leb a' b && leb c' d ≡ false
+less-room a a' b c c' d e h k =
+    by-test (leb a b)
+    (λ t.
+    let f : leb c d ≡ false = rw t at e in
+    let z = lt-leb c' d (omega (arith, leb-false c d f)) in
+    rw z (never (leb a' b)))
+    (λ f. rw (lt-leb a' b (omega (arith, leb-false a b f))))
+  where
+    never : (x : Bool) → x && false ≡ false
+    never true = refl
+    never false = refl
+
+pub roomy : (o : Outputs) (rows cells : ℕ) → haveRoom o rows cells ≡ true
+    → (o .rows + rows ≤ capacityOf (length (o .archive))) × (cellLength * o .closings + cells ≤ length (o .heard))
+roomy o rows cells e =
+    let cap = capacityOf (length (o .archive)) in
+    let at = cellLength * o .closings in
+    let w = both (leb (o .rows + rows) cap) (leb (at + cells) (length (o .heard))) e in
+    (leb-true (o .rows + rows) cap (w .0), leb-true (at + cells) (length (o .heard)) (w .1))
+
+-- ---- closings behind closings
+
+joined : (a b l : List ℕ) (i j : ℕ) → j ≡ i + length a → sets (sets l i a) j b ≡ sets l i (a ++ b)
+joined a b l i j e =
+    then {out = l} {a = a} {b = b} {at = i} {m = length a} {n = length b}
+    (record { bytes = refl; next = e; short = omega arith })
+    (record { bytes = refl; next = refl; short = omega arith }) .bytes
+
+-- ---- on the way
+
+-- of a text that is taken from s₀ on, the first `at` characters were taken, and what they say stands in the outputs
+pub record Going (write : Bool) (s₀ : Phase Receiver) (input : List ℕ) (o₀ : Outputs) (s : Phase Receiver) (at : ℕ)
+    (o : Outputs) : Type 0 where
   pub inside : at ≤ length input
   pub said : List Row
   pub whole : rowsSaid s₀ input ≡ said ++ rowsSaid s (drop at input)
+  pub cells : List ℕ
+  pub closed : cellsSaid s₀ input ≡ cells ++ cellsSaid s (drop at input)
   pub left : outputOf states s₀ input ≡ outputOf states s (drop at input)
-  pub count : n ≡ n₀ + length said
-  pub room : n ≤ capacityOf (length archive₀)
-  pub long : length archive ≡ length archive₀
-  pub quiet : write ≡ false → archive ≡ archive₀
-  pub grown : write ≡ true → Grown archive₀ said archive
+  pub count : o .rows ≡ o₀ .rows + length said
+  pub closings : cellLength * o .closings ≡ cellLength * o₀ .closings + length cells
+  pub room : OutputsFit o
+  pub long : length (o .archive) ≡ length (o₀ .archive)
+  pub same : length (o .heard) ≡ length (o₀ .heard)
+  pub quiet : write ≡ false → o .archive ≡ o₀ .archive
+  pub still : write ≡ false → o .heard ≡ o₀ .heard
+  pub grown : write ≡ true → Grown (o₀ .archive) said (o .archive)
+  pub heard : write ≡ true → o .heard ≡ sets (o₀ .heard) (cellLength * o₀ .closings) cells
 
-pub begins : {write : Bool} {s : Arrays} {setting : ℕ} {input archive : List ℕ} {n : ℕ}
-    → Ready write s setting input archive n
-    → Going write (phaseAt setting s) input archive n (phaseAt setting s) archive 0 n
-begins {archive = archive} r = record {
+pub begins : {write : Bool} {s : Arrays} {setting : ℕ} {input : List ℕ} {o : Outputs}
+    → Ready write s setting input o
+    → Going write (phaseAt setting s) input o (phaseAt setting s) 0 o
+begins {o = o} r = record {
   inside = omega arith;
   said = [];
   whole = refl;
+  cells = [];
+  closed = refl;
   left = refl;
   count = omega arith;
+  closings = omega arith;
   room = r .callable .room;
   long = refl;
+  same = refl;
   quiet = λ e. refl;
-  grown = λ e. record { right = r .holds e .right; rows = sym (append-nil (rowsIn archive)); long = refl };
+  still = λ e. refl;
+  grown = λ e. record { right = r .holds e .right; rows = sym (append-nil (rowsIn (o .archive))); long = refl };
+  heard = λ e. refl;
 }
 
-module _ {write : Bool} {s₀ : Phase Receiver} {input archive₀ : List ℕ} {n₀ : ℕ} {s : Phase Receiver}
-    {archive : List ℕ} {at n : ℕ}
-    (i : Going write s₀ input archive₀ n₀ s archive at n) where
+module _ {write : Bool} {s₀ : Phase Receiver} {input : List ℕ} {o₀ : Outputs} {s : Phase Receiver} {at : ℕ}
+    {o : Outputs}
+    (i : Going write s₀ input o₀ s at o) where
   -- the archive now
-  pub holds : (write ≡ true → Holds archive₀ n₀) → write ≡ true → Holds archive n
+  pub holds : (write ≡ true → Holds (o₀ .archive) (o₀ .rows)) → write ≡ true → Holds (o .archive) (o .rows)
   holds h e =
       let g = i .grown e in
       record {
         right = g .right;
-        count = ap length (g .rows) ∙ length-append (rowsIn archive₀) (i .said)
+        count = ap length (g .rows) ∙ length-append (rowsIn (o₀ .archive)) (i .said)
             ∙ omega (arith, i .count, h e .count);
       }
 
@@ -96,53 +157,71 @@ module _ {write : Bool} {s₀ : Phase Receiver} {input archive₀ : List ℕ} {n
   fit-rest f = all-parts isFit (i .said) (rowsSaid s (drop at input)) (rw (i .whole) at f) .1
 
   -- nothing is left
-  pub closes : drop at input ≡ [] → TextPassed write (rowsSaid s₀ input) archive₀ n₀ archive
-      (record { fits = true; rows = n })
+  pub closes : drop at input ≡ [] → TextPassed write (rowsSaid s₀ input) (cellsSaid s₀ input) o₀ (o .archive) (o .heard)
+      (record { fits = true; rows = o .rows; closings = o .closings })
   closes e =
       let all-said : rowsSaid s₀ input ≡ i .said = i .whole ∙ rw (e, no-more s) (append-nil (i .said)) in
-      record {
-        fits = sym (rw all-said (le-leb (n₀ + length (i .said)) (capacityOf (length archive₀))
-            (omega (arith, i .count, i .room))));
-        count = λ _. rw all-said (i .count);
+      let all-closed : cellsSaid s₀ input ≡ i .cells = i .closed ∙ rw (e, none-closes s) (append-nil (i .cells)) in
+      let rows-fit = le-leb (o₀ .rows + length (i .said)) (capacityOf (length (o₀ .archive)))
+      (omega (arith, i .count, i .room .rows, i .long)) in
+      let cells-fit = le-leb (cellLength * o₀ .closings + length (i .cells)) (length (o₀ .heard))
+      (omega (arith, i .closings, i .room .closings, i .same)) in
+      rw (all-said, all-closed)
+      (record {
+        fits = sym (and-true rows-fit cells-fit);
+        count = λ _. i .count;
+        closings = λ _. i .closings;
         quiet = i .quiet;
-        grown = λ w _. rw all-said (i .grown w);
-      }
+        still = i .still;
+        grown = λ w _. i .grown w;
+        heard = λ w _. i .heard w;
+      })
 
   -- the rest was gone through
-  pub ends : {archive' : List ℕ} (r : Pass) → TextPassed write (rowsSaid s (drop at input)) archive n archive' r
-      → TextPassed write (rowsSaid s₀ input) archive₀ n₀ archive' r
-  ends {archive'} r p =
+  pub ends : {archive' heard' : List ℕ} (r : Pass)
+      → TextPassed write (rowsSaid s (drop at input)) (cellsSaid s (drop at input)) o archive' heard' r
+      → TextPassed write (rowsSaid s₀ input) (cellsSaid s₀ input) o₀ archive' heard' r
+  ends {archive'} {heard'} r p =
       let rest = rowsSaid s (drop at input) in
-      let size : n₀ + length (rowsSaid s₀ input) ≡ n + length rest = omega
+      let later = cellsSaid s (drop at input) in
+      let size : o₀ .rows + length (rowsSaid s₀ input) ≡ o .rows + length rest = omega
       (arith, ap length (i .whole), length-append (i .said) rest, i .count) in
+      let bytes : cellLength * o₀ .closings + length (cellsSaid s₀ input) ≡ cellLength * o .closings + length later =
+      omega (arith, ap length (i .closed), length-append (i .cells) later, i .closings) in
       record {
-        fits = rw (size, ← i .long) (p .fits);
+        fits = rw (size, bytes, ← i .long, ← i .same) (p .fits);
         count = λ f. p .count f ∙ sym size;
+        closings = λ f. p .closings f ∙ sym bytes;
         quiet = λ w. p .quiet w ∙ i .quiet w;
+        still = λ w. p .still w ∙ i .still w;
         grown = λ w f.
             let g = p .grown w f in
             let b = i .grown w in
             record {
               right = g .right;
               rows = g .rows ∙ ap (λ (l : List Row). l ++ rest) (b .rows)
-                  ∙ append-assoc (rowsIn archive₀) (i .said) rest
-                  ∙ ap (λ (l : List Row). rowsIn archive₀ ++ l) (sym (i .whole));
+                  ∙ append-assoc (rowsIn (o₀ .archive)) (i .said) rest
+                  ∙ ap (λ (l : List Row). rowsIn (o₀ .archive) ++ l) (sym (i .whole));
               long = g .long ∙ b .long;
             };
+        heard = λ w f.
+            p .heard w f ∙ ap (λ (l : List ℕ). sets l (cellLength * o .closings) later) (i .heard w)
+            ∙ joined (i .cells) later (o₀ .heard) (cellLength * o₀ .closings) (cellLength * o .closings) (i .closings)
+            ∙ ap (sets (o₀ .heard) (cellLength * o₀ .closings)) (sym (i .closed));
       }
 
 -- nothing is left: the state
-pub closes-state : (setting : ℕ) (s : Arrays) {write : Bool} {s₀ : Phase Receiver} {input archive₀ : List ℕ} {n₀ : ℕ}
-    {archive : List ℕ} {at n : ℕ} → Going write s₀ input archive₀ n₀ (phaseAt setting s) archive at n
+pub closes-state : (setting : ℕ) (s : Arrays) {write : Bool} {s₀ : Phase Receiver} {input : List ℕ} {o₀ : Outputs}
+    {at : ℕ} {o : Outputs} → Going write s₀ input o₀ (phaseAt setting s) at o
     → drop at input ≡ [] → outputOf states s₀ input ≡ imageOf (stateAt s)
 closes-state setting s i e = i .left ∙ rw e (state-none (phaseAt setting s))
 
 -- ---- a turn
 
-module _ {write : Bool} {s₀ : Phase Receiver} {input archive₀ : List ℕ} {n₀ setting : ℕ} {s s' : Arrays}
-    {archive archive' : List ℕ} {at n : ℕ}
-    (i : Going write s₀ input archive₀ n₀ (phaseAt setting s) archive at n) (r : Turn)
-    (t : Turned write s setting (drop at input) archive n s' archive' r) where
+module _ {write : Bool} {s₀ : Phase Receiver} {input : List ℕ} {o₀ : Outputs} {setting : ℕ} {s s' : Arrays}
+    {archive' heard' : List ℕ} {at : ℕ} {o : Outputs}
+    (i : Going write s₀ input o₀ (phaseAt setting s) at o) (r : Turn)
+    (t : Turned write s setting (drop at input) o s' archive' heard' r) where
   abbrev text : List ℕ
   text = take (r .used) (drop at input)
 
@@ -151,6 +230,12 @@ module _ {write : Bool} {s₀ : Phase Receiver} {input archive₀ : List ℕ} {n
 
   abbrev rest : List Row
   rest = rowsSaid (phaseAt setting s') (drop (at + r .used) input)
+
+  abbrev shut : List ℕ
+  shut = cellsGiven (phaseAt setting s) text
+
+  abbrev later : List ℕ
+  later = cellsSaid (phaseAt setting s') (drop (at + r .used) input)
 
   given-count : length given ≡ r .rows
   given-count = rows-count (timesGiven (phaseAt setting s) text) (recordsGiven (phaseAt setting s) text)
@@ -172,6 +257,15 @@ module _ {write : Bool} {s₀ : Phase Receiver} {input archive₀ : List ℕ} {n
   whole-then : rowsSaid s₀ input ≡ (i .said ++ given) ++ rest
   whole-then = i .whole ∙ ap (λ (l : List Row). i .said ++ l) said-then ∙ sym (append-assoc (i .said) given rest)
 
+  closed-then : cellsSaid s₀ input ≡ (i .cells ++ shut) ++ later
+  closed-then =
+      let d = drop at input in
+      let now : cellsSaid (phaseAt setting s) d ≡ shut ++ later =
+      ap (cellsSaid (phaseAt setting s)) (sym (take-append-drop (r .used) d))
+      ∙ closed-more (phaseAt setting s) (phaseAt setting s') text (drop (r .used) d) (t .closed)
+      ∙ ap (λ (l : List ℕ). shut ++ cellsSaid (phaseAt setting s') l) (drop-drop (r .used) at input) in
+      i .closed ∙ ap (λ (l : List ℕ). i .cells ++ l) now ∙ sym (append-assoc (i .cells) shut later)
+
   left-then : outputOf states s₀ input ≡ outputOf states (phaseAt setting s') (drop (at + r .used) input)
   left-then =
       let d = drop at input in
@@ -179,47 +273,76 @@ module _ {write : Bool} {s₀ : Phase Receiver} {input archive₀ : List ℕ} {n
       ∙ state-more (phaseAt setting s) (phaseAt setting s') text (drop (r .used) d) (t .timed)
       ∙ ap (outputOf states (phaseAt setting s')) (drop-drop (r .used) at input)
 
-  pub too-full : (rows : ℕ) → r .fits ≡ false → TextPassed write (rowsSaid s₀ input) archive₀ n₀ archive'
-      (record { fits = false; rows = rows })
-  too-full rows e =
-      let over = leb-false (n + r .rows) (capacityOf (length archive)) (sym (t .fits) ∙ e) in
+  -- no more than the whole says
+  rows-within : o .rows + r .rows ≤ o₀ .rows + length (rowsSaid s₀ input)
+  rows-within =
       let a = length-append (i .said ++ given) rest in
       let b = length-append (i .said) given in
+      omega (arith, ap length whole-then, a, b, given-count, i .count)
+
+  cells-within : cellLength * o .closings + cellLength * r .closings
+      ≤ cellLength * o₀ .closings + length (cellsSaid s₀ input)
+  cells-within =
+      let a = length-append (i .cells ++ shut) later in
+      let b = length-append (i .cells) shut in
+      omega (arith, ap length closed-then, a, b, t .cells, i .closings)
+
+  pub too-full : (rows closings : ℕ) → r .fits ≡ false
+      → TextPassed write (rowsSaid s₀ input) (cellsSaid s₀ input) o₀ archive' heard'
+      (record { fits = false; rows = rows; closings = closings })
+  too-full rows closings e =
+      let full : haveRoom o₀ (length (rowsSaid s₀ input)) (length (cellsSaid s₀ input)) ≡ false =
+      less-room (o .rows + r .rows) (o₀ .rows + length (rowsSaid s₀ input)) (capacityOf (length (o₀ .archive)))
+      (cellLength * o .closings + cellLength * r .closings)
+      (cellLength * o₀ .closings + length (cellsSaid s₀ input)) (length (o₀ .heard))
+      (rw (← i .long, ← i .same) (sym (t .fits) ∙ e)) rows-within cells-within in
       record {
-        fits = sym (lt-leb (n₀ + length (rowsSaid s₀ input)) (capacityOf (length archive₀))
-            (rw (← i .long) (omega (arith, over, ap length whole-then, a, b, given-count, i .count))));
+        fits = sym full;
         count = λ f. absurd (false≢true f);
+        closings = λ f. absurd (false≢true f);
         quiet = λ w. (rw w at (t .put)) ∙ i .quiet w;
+        still = λ w. (rw w at (t .heard)) ∙ i .still w;
         grown = λ w f. absurd (false≢true f);
+        heard = λ w f. absurd (false≢true f);
       }
 
-  pub goes-on : (write ≡ true → Holds archive₀ n₀) → all isFit (rowsSaid s₀ input) ≡ true
-      → length archive' ≡ length archive → r .fits ≡ true
-      → Going write s₀ input archive₀ n₀ (phaseAt setting s') archive' (at + r .used) (n + r .rows)
-  goes-on h fit long e =
-      let room = leb-true (n + r .rows) (capacityOf (length archive)) (sym (t .fits) ∙ e) in
+  pub goes-on : (write ≡ true → Holds (o₀ .archive) (o₀ .rows)) → all isFit (rowsSaid s₀ input) ≡ true
+      → length archive' ≡ length (o .archive) → length heard' ≡ length (o .heard) → r .fits ≡ true
+      → Going write s₀ input o₀ (phaseAt setting s') (at + r .used)
+      (outputs archive' (o .rows + r .rows) heard' (o .closings + r .closings))
+  goes-on h fit long same e =
+      let room = roomy o (r .rows) (cellLength * r .closings) (sym (t .fits) ∙ e) in
       let w = all-parts isFit (i .said ++ given) rest (rw whole-then at fit) in
       let g = all-parts isFit (i .said) given (w .0) in
       record {
         inside = inside-then;
         said = i .said ++ given;
         whole = whole-then;
+        cells = i .cells ++ shut;
+        closed = closed-then;
         left = left-then;
         count = omega (arith, length-append (i .said) given, given-count, i .count);
-        room = rw (← i .long) room;
+        closings = omega (arith, length-append (i .cells) shut, t .cells, i .closings);
+        room = record { rows = rw long (room .0); closings = rw same (omega (arith, room .1)) };
         long = long ∙ i .long;
+        same = same ∙ i .same;
         quiet = λ q. (rw q at (t .put)) ∙ i .quiet q;
+        still = λ q. (rw q at (t .heard)) ∙ i .still q;
         grown = λ q.
-            let put : archive' ≡ putIn archive n given = rw (q, e) at (t .put) in
-            let now = put-grown archive n (holds i h q) given (g .1) (rw given-count (t .few)) (rw given-count room)
-            (ap length (sym put) ∙ long) in
+            let put : archive' ≡ putIn (o .archive) (o .rows) given = rw (q, e) at (t .put) in
+            let now = put-grown (o .archive) (o .rows) (holds i h q) given (g .1) (rw given-count (t .few))
+            (rw given-count (room .0)) (ap length (sym put) ∙ long) in
             let b = i .grown q in
             record {
               right = rw put (now .right);
               rows = rw put (now .rows ∙ ap (λ (l : List Row). l ++ given) (b .rows)
-                  ∙ append-assoc (rowsIn archive₀) (i .said) given);
+                  ∙ append-assoc (rowsIn (o₀ .archive)) (i .said) given);
               long = long ∙ b .long;
             };
+        heard = λ q.
+            let put : heard' ≡ sets (o .heard) (cellLength * o .closings) shut = rw (q, e) at (t .heard) in
+            put ∙ ap (λ (l : List ℕ). sets l (cellLength * o .closings) shut) (i .heard q)
+            ∙ joined (i .cells) shut (o₀ .heard) (cellLength * o₀ .closings) (cellLength * o .closings) (i .closings);
       }
 
   pub stays-good : Good (stateAt s) → Good (stateAt s')
@@ -228,25 +351,16 @@ module _ {write : Bool} {s₀ : Phase Receiver} {input archive₀ : List ℕ} {n
 
 -- ---- what is asked for where more is taken
 
-pub callable : (s : Arrays) (setting : ℕ) (archive archive₀ : List ℕ) (n : ℕ) → Good (stateAt s) → setting ≤ 2
-    → n ≤ capacityOf (length archive₀)
-    → length archive ≡ length archive₀ → Callable s setting archive n
-callable s setting archive archive₀ n g level room long = record {
-  accepted = good-acceptable g;
-  level = level;
-  room = rw long room;
-}
-
 pub good-fits : (s : Arrays) → Good (stateAt s) → Fits (stateAt s)
 good-fits s g = record { latest = g .entries .fits; received = g .totals .fits; copies = g .entries .copies }
 
-pub ready : {write : Bool} {s₀ : Phase Receiver} {input archive₀ : List ℕ} {n₀ setting : ℕ} {s : Arrays}
-    {archive : List ℕ} {at n : ℕ}
-    → Going write s₀ input archive₀ n₀ (phaseAt setting s) archive at n → (write ≡ true → Holds archive₀ n₀)
+pub ready : {write : Bool} {s₀ : Phase Receiver} {input : List ℕ} {o₀ : Outputs} {setting : ℕ} {s : Arrays} {at : ℕ}
+    {o : Outputs}
+    → Going write s₀ input o₀ (phaseAt setting s) at o → (write ≡ true → Holds (o₀ .archive) (o₀ .rows))
     → all isFit (rowsSaid s₀ input) ≡ true
-    → Good (stateAt s) → setting ≤ 2 → Ready write s setting (drop at input) archive n
-ready {archive₀ = archive₀} {setting = setting} {s = s} {archive = archive} {n = n} i h fit g level = record {
-  callable = callable s setting archive archive₀ n g level (i .room) (i .long);
+    → Good (stateAt s) → setting ≤ 2 → Ready write s setting (drop at input) o
+ready {s = s} i h fit g level = record {
+  callable = record { accepted = good-acceptable g; level = level; room = i .room };
   fits = good-fits s g;
   fit = fit-rest i fit;
   holds = holds i h;
@@ -254,45 +368,52 @@ ready {archive₀ = archive₀} {setting = setting} {s = s} {archive = archive} 
 
 -- ---- a last line
 
-module _ {write : Bool} {s s' : Arrays} {setting : ℕ} {line archive archive' : List ℕ} {n : ℕ}
-    (q : Ready write s setting line archive n)
-    (o : isUnended line ≡ true) (some : 0 < length line) (r : Turn)
-    (t : Turned write s setting (take lineLimit line ++ (newline ∷ [])) archive n s' archive' r)
-    (long : length archive' ≡ length archive) where
+module _ {write : Bool} {s s' : Arrays} {setting : ℕ} {line : List ℕ} {o : Outputs} {archive' heard' : List ℕ}
+    (q : Ready write s setting line o)
+    (u : isUnended line ≡ true) (some : 0 < length line) (r : Turn)
+    (t : Turned write s setting (take lineLimit line ++ (newline ∷ [])) o s' archive' heard' r)
+    (long : length archive' ≡ length (o .archive)) (same : length heard' ≡ length (o .heard)) where
   abbrev ended : List ℕ
   ended = take lineLimit line ++ (newline ∷ [])
 
   same-said : rowsSaid (phaseAt setting s) line ≡ rowsSaid (phaseAt setting s) ended
-  same-said = said-last (phaseAt setting s) line o some
+  same-said = said-last (phaseAt setting s) line u some
+
+  same-closed : cellsSaid (phaseAt setting s) line ≡ cellsSaid (phaseAt setting s) ended
+  same-closed = closed-last (phaseAt setting s) line u some
 
   fit-ended : all isFit (rowsSaid (phaseAt setting s) ended) ≡ true
   fit-ended = rw same-said at (q .fit)
 
-  starts : Going write (phaseAt setting s) ended archive n (phaseAt setting s) archive 0 n
+  starts : Going write (phaseAt setting s) ended o (phaseAt setting s) 0 o
   starts = begins (record { callable = q .callable; fits = q .fits; fit = fit-ended; holds = q .holds })
 
   -- all of it is taken
   none-left : drop (0 + r .used) ended ≡ []
   none-left =
-      let u = all-used rowTimes (phaseAt setting s) (phaseAt setting s') (take lineLimit line) (r .used)
-      (open-front lineLimit line o) (t .within) (t .timed) (t .rest) in
+      let v = all-used rowTimes (phaseAt setting s) (phaseAt setting s') (take lineLimit line) (r .used)
+      (open-front lineLimit line u) (t .within) (t .timed) (t .rest) in
       drop-of-length-le ended {i = 0 + r .used} (omega arith)
 
-  last-passed : TextPassed write (rowsSaid (phaseAt setting s) line) archive n archive'
-      (record { fits = r .fits; rows = n + r .rows })
-  last-passed =
-      rw same-said
-      (by-test (r .fits)
-      (λ e. rw e (closes (goes-on starts r t (q .holds) fit-ended long e) none-left))
-      (λ e. rw e (too-full starts r t (n + r .rows) e)))
+  abbrev last : Pass
+  last = record { fits = r .fits; rows = o .rows + r .rows; closings = o .closings + r .closings }
 
-  pub last-went : Went write s setting line archive n s' archive' (record { fits = r .fits; rows = n + r .rows })
+  last-passed : TextPassed write (rowsSaid (phaseAt setting s) line) (cellsSaid (phaseAt setting s) line) o archive'
+      heard'
+      last
+  last-passed =
+      rw (same-said, same-closed)
+      (by-test (r .fits)
+      (λ e. rw e (closes (goes-on starts r t (q .holds) fit-ended long same e) none-left))
+      (λ e. rw e (too-full starts r t (o .rows + r .rows) (o .closings + r .closings) e)))
+
+  pub last-went : Went write s setting line o s' archive' heard' last
   last-went =
       let g = good-of (stateAt s) (q .callable .accepted) (q .fits) in
       record {
         passed = last-passed;
         left = λ e.
-            state-last (phaseAt setting s) line o some
-            ∙ closes-state setting s' (goes-on starts r t (q .holds) fit-ended long e) none-left;
+            state-last (phaseAt setting s) line u some
+            ∙ closes-state setting s' (goes-on starts r t (q .holds) fit-ended long same e) none-left;
         accepted = λ _. good-acceptable (stays-good starts r t g);
       }

@@ -2,11 +2,14 @@
 use archive_fill::ROW_LENGTH;
 use base_refusal::Refusal;
 use block_layout::BLOCK_LENGTH;
+use block_layout::CELL_LENGTH;
 use block_layout::CELLS_PER_BLOCK;
 use c_collector::BYTES;
 use c_collector::CAPACITY;
 use c_collector::NUMBERS;
 use collector_checkpoint::IMAGE_LENGTH;
+use journal_state::NAME_LENGTH;
+use journal_state::TAIL_LENGTH;
 use radio_telegram::repeater::MAX_SETTING;
 use text_lines::LINE_LIMIT;
 ghost use mathlib.Core.Path.{_≡_};
@@ -14,6 +17,8 @@ ghost use mathlib.Core.Bool.{true, cond};
 ghost use mathlib.Core.List.{[], _∷_, _++_};
 ghost use Prim.Native.Nat.{_+_, _*_, _/_, _≤_, _<_, min};
 ghost use lib.ListN.{length, take, drop};
+ghost use lib.Seq.{sets};
+ghost use Rattle.block_layout.specs.Cell.{cellLength};
 ghost use Rattle.block_layout.specs.Block.{cellsPerBlock, blockLength};
 ghost use Rattle.collector_model.specs.View.{fresh};
 ghost use Rattle.collector_model.specs.Image.{imageLength, imageOf};
@@ -23,11 +28,17 @@ ghost use Rattle.text_lines.specs.Ascii.{newline};
 ghost use Rattle.text_lines.specs.Reading.{lineLimit};
 ghost use Rattle.text_program.specs.Buffer.{isUnended};
 ghost use Rattle.c_collector.specs.State.{arrays, stateAt};
-ghost use Rattle.history_log.specs.Keep.{keepingOf, keepOf};
-ghost use Rattle.history_log.specs.Private.{textLength, putIn, Holds, Ready, Callable, Turned, Went, LogPassed, WentThrough};
+ghost use Rattle.base_buffers.specs.Buffer.{resized};
+ghost use Rattle.text_program.specs.Lines.{linesOf};
+ghost use Rattle.journal_state.specs.State.{maxName};
+ghost use Rattle.history_log.specs.Keep.{takenOf, stateNumbers, capacityOf, keepingOf, refusedKept, keepOf};
+ghost use Rattle.history_log.specs.Private.{bufferLength, putIn, lastIn, Noted, outputs, Holds, Ready, Callable, Turned, Went, LogPassed, WentThrough};
 
-// Room for the text of 15 lines, which is not used.
-const TEXT: usize = 4096;
+// Room for the text of 15 lines, which is not used; and for what two of them close.
+const BUFFER: usize = 4096;
+
+// Rows as text.
+const TEXT: u8 = 0;
 
 // The records of the rows of a block.
 const ROWS: usize = ROW_LENGTH * CELLS_PER_BLOCK;
@@ -35,70 +46,208 @@ const ROWS: usize = ROW_LENGTH * CELLS_PER_BLOCK;
 // What tells a line, and a newline.
 const WHOLE: usize = LINE_LIMIT + 1;
 
-// 0 or the number of a refusal, the position beside 12, and how many rows the archive then has.
+// 0 or the number of a refusal, the position beside 12, how many rows the archive then has, how many telegrams the log closes, and how
+// many lines were taken.
 pub struct Kept {
     pub number: u8,
     pub position: usize,
     pub rows: usize,
+    pub closings: usize,
+    pub lines: usize,
 }
 
-// Whether the rows of a text fit into the archive, and how many rows it then has.
+// Whether the rows of a text and what it closes fit, and how many rows and closings there then are.
 pub(crate) struct Pass {
     pub fits: bool,
     pub rows: usize,
+    pub closings: usize,
 }
 
-// The same of some lines, and how many characters these are.
+// How many characters some lines are, their rows and closings, and whether these fit.
 pub(crate) struct Turn {
     pub used: usize,
     pub rows: usize,
+    pub closings: usize,
     pub fits: bool,
 }
 
-// Puts the rows of a log behind those of an archive, and the image of the collector then into the first 2,560 bytes of `image`: 16, 12 with the
-// position; 6 where one of them has no room; then both are as they were.
-pub fn keep(log: &[u8], archive: &mut [u8], image: &mut [u8]) -> Kept
-    ensures { λ r. ⌜ keepingOf r (now (archive .exit)) (now (image .exit))
-        ≡ keepOf (now (log .entry)) (now (archive .entry)) (now (image .entry)) ⌝ }
+// Puts the rows of a log behind those of an archive of this name, what it closes into the first bytes of `heard`, 32 bytes for each
+// telegram, and the tool's state then into `state`: 16, 12 with the position; 10 for a name of no byte or of more than 255; 6 where rows
+// or closings have no room; then all three are as they were.
+pub fn keep(
+    log: &[u8],
+    archive: &mut [u8],
+    heard: &mut [u8],
+    name: &[u8],
+    state: &mut [u8; journal_state::LENGTH],
+) -> Kept
+    ensures { λ r. ⌜ keepingOf r (now (archive .exit)) (now (heard .exit)) (now (state .exit))
+        ≡ keepOf (now (log .entry)) (now (archive .entry)) (now (heard .entry)) (now (name .entry)) (now (state .entry)) ⌝ }
 {
     let mut rows: usize = 0;
     let mut position: usize = 0;
     let number = c_archive::verify(archive, &mut rows, &mut position);
     if number != 0 {
-        return Kept {
-            number: number,
-            position: position,
-            rows: 0,
-        };
+        return refused(number, position);
     }
-    if image.len() < IMAGE_LENGTH {
-        return Kept {
-            number: base_refusal::number(Refusal::ShortOutput),
-            position: 0,
-            rows: 0,
-        };
+    if (name.len() == 0) | (NAME_LENGTH < name.len()) {
+        return refused(base_refusal::number(Refusal::Argument), 0);
     }
-    let p = go_through(false, log, archive, rows, image);
+    let mut image = blank_image();
+    let p = go_through(false, log, archive, rows, heard, &mut image);
     if !p.fits {
-        return Kept {
-            number: base_refusal::number(Refusal::ShortOutput),
-            position: 0,
-            rows: 0,
-        };
+        return refused(base_refusal::number(Refusal::ShortOutput), 0);
     }
-    let q = go_through(true, log, archive, rows, image);
+    let q = go_through(true, log, archive, rows, heard, &mut image);
+    let lines = put_state(log, archive, rows, q.rows, name, &image, state);
     Kept {
         number: 0,
         position: 0,
         rows: q.rows,
+        closings: q.closings,
+        lines: lines,
     }
 }
 
-// Takes the log by a fresh collector, and puts its rows behind the `n` of the archive, and the image, where it is told to.
-fn go_through(write: bool, log: &[u8], archive: &mut [u8], n: usize, image: &mut [u8]) -> Pass
+fn refused(number: u8, position: usize) -> Kept
+    ensures { λ r. ⌜ r ≡ refusedKept number position ⌝ }
+{
+    Kept {
+        number: number,
+        position: position,
+        rows: 0,
+        closings: 0,
+        lines: 0,
+    }
+}
+
+fn blank_image() -> [u8; IMAGE_LENGTH]
+    ensures { λ r. ⌜ length r ≡ imageLength ⌝ }
+{
+    [0; IMAGE_LENGTH]
+}
+
+// Writes the tool's state after a log that came on standard input, where the archive had `had` rows before it and has `rows` now; how
+// many lines were taken.
+fn put_state(
+    log: &[u8],
+    archive: &[u8],
+    had: usize,
+    rows: usize,
+    name: &[u8],
+    image: &[u8; IMAGE_LENGTH],
+    state: &mut [u8; journal_state::LENGTH],
+) -> usize
+    requires { ⌜ rows ≤ capacityOf (length (now archive)) ⌝ }
+    ensures { λ r. ⌜ Noted (now (log .entry)) (now (archive .entry)) had rows (now (name .entry)) (now (image .entry))
+        (now (state .entry)) (now (state .exit)) r ⌝ }
+{
+    let text = taken(log);
+    let lines = count_lines(&log[0..text]);
+    let kept = least(text, TAIL_LENGTH);
+    let tail = block_of(&log[text - kept..text]);
+    let field = name_field(name);
+    let last = last_block(archive, rows);
+    let numbers = numbers_of(lines, had, name.len(), text, kept);
+    journal_state::write(&numbers, &field, &last, image, &tail, state);
+    lines
+}
+
+fn numbers_of(
+    lines: usize,
+    had: usize,
+    name: usize,
+    offset: usize,
+    tail: usize,
+) -> [u64; journal_state::NUMBERS]
+    ensures { λ r. ⌜ r ≡ stateNumbers lines had name offset tail ⌝ }
+{
+    [
+        lines as u64,
+        0,
+        had as u64,
+        0,
+        name as u64,
+        1,
+        offset as u64,
+        0,
+        0,
+        tail as u64,
+        0,
+        0,
+        0,
+        0,
+    ]
+}
+
+fn name_field(name: &[u8]) -> [u8; NAME_LENGTH]
+    ensures { λ r. ⌜ r ≡ resized maxName (now (name .entry)) ⌝ }
+{
+    let mut out = [0u8; NAME_LENGTH];
+    block_layout::put_bytes(&mut out, name);
+    out
+}
+
+// The first bytes of a text in a block, with zeros behind them.
+fn block_of(text: &[u8]) -> [u8; BLOCK_LENGTH]
+    ensures { λ r. ⌜ r ≡ resized blockLength (now (text .entry)) ⌝ }
+{
+    let mut out = [0u8; BLOCK_LENGTH];
+    block_layout::put_bytes(&mut out, text);
+    out
+}
+
+// The block with the last of so many rows; zeros where there is none.
+fn last_block(archive: &[u8], rows: usize) -> [u8; BLOCK_LENGTH]
+    requires { ⌜ rows ≤ capacityOf (length (now archive)) ⌝ }
+    ensures { λ r. ⌜ r ≡ lastIn (now (archive .entry)) rows ⌝ }
+{
+    if rows == 0 {
+        return block_of(&archive[0..0]);
+    }
+    let at = BLOCK_LENGTH * ((rows - 1) / CELLS_PER_BLOCK);
+    let end = at + BLOCK_LENGTH;
+    block_of(&archive[at..end])
+}
+
+// How many characters of a log are taken: all, or none where its first line is not right.
+fn taken(log: &[u8]) -> usize
+    ensures { λ r. ⌜ r ≡ length (takenOf (now (log .entry))) ⌝ }
+{
+    let mut first = [0u64; c_lines::FIRST];
+    let setting = c_lines::first_line(log, &mut first);
+    if MAX_SETTING < setting {
+        return 0;
+    }
+    log.len()
+}
+
+// How many lines a text has; a last one without a newline counts.
+fn count_lines(text: &[u8]) -> usize
+    ensures { λ r. ⌜ r ≡ length (linesOf (now (text .entry))) ⌝ }
+{
+    let mut done = [0u64; c_lines::SKIPPED];
+    c_lines::skip_lines(text, text.len(), &mut done);
+    let used = done[0] as usize;
+    let lines = done[1] as usize;
+    if used < text.len() {
+        return lines + 1;
+    }
+    lines
+}
+
+// Takes the log by a fresh collector, and puts its rows behind the `n` of the archive, what it closes, and the image, where it is told to.
+fn go_through(
+    write: bool,
+    log: &[u8],
+    archive: &mut [u8],
+    n: usize,
+    heard: &mut [u8],
+    image: &mut [u8],
+) -> Pass
     requires { ⌜ Holds (now archive) n × (imageLength ≤ length (now image)) ⌝ }
-    ensures { λ r. ⌜ WentThrough write (now (log .entry)) (now (archive .entry)) n (now (image .entry))
-        (now (archive .exit)) (now (image .exit)) r ⌝ }
+    ensures { λ r. ⌜ WentThrough write (now (log .entry)) (outputs (now (archive .entry)) n (now (heard .entry)) 0)
+        (now (image .entry)) (now (archive .exit)) (now (heard .exit)) (now (image .exit)) r ⌝ }
 {
     let mut times = [0u64; CAPACITY];
     let mut lengths = [0u8; CAPACITY];
@@ -122,6 +271,7 @@ fn go_through(write: bool, log: &[u8], archive: &mut [u8], n: usize, image: &mut
         log,
         archive,
         n,
+        heard,
     );
     park(
         write & p.fits,
@@ -146,13 +296,14 @@ fn take_log(
     log: &[u8],
     archive: &mut [u8],
     n: usize,
+    heard: &mut [u8],
 ) -> Pass
     requires { ⌜ (stateAt (arrays (now times) (now lengths) (now bytes) (now copies) (now numbers)) ≡ fresh)
         × Holds (now archive) n ⌝ }
-    ensures { λ r. ⌜ LogPassed write (now (log .entry)) (now (archive .entry)) n
+    ensures { λ r. ⌜ LogPassed write (now (log .entry)) (outputs (now (archive .entry)) n (now (heard .entry)) 0)
         (arrays (now (times .exit)) (now (lengths .exit)) (now (bytes .exit)) (now (copies .exit))
         (now (numbers .exit)))
-        (now (archive .exit)) r ⌝ }
+        (now (archive .exit)) (now (heard .exit)) r ⌝ }
 {
     let mut first = [0u64; c_lines::FIRST];
     let setting = c_lines::first_line(log, &mut first);
@@ -160,6 +311,7 @@ fn take_log(
         return Pass {
             fits: true,
             rows: n,
+            closings: 0,
         };
     }
     let at = first[0] as usize;
@@ -174,6 +326,8 @@ fn take_log(
         &log[at..],
         archive,
         n,
+        heard,
+        0,
     )
 }
 
@@ -213,19 +367,22 @@ fn take_lines(
     input: &[u8],
     archive: &mut [u8],
     n: usize,
+    heard: &mut [u8],
+    m: usize,
 ) -> Pass
     requires { ⌜ Ready write (arrays (now times) (now lengths) (now bytes) (now copies) (now numbers)) setting (now input)
-        (now archive) n ⌝ }
+        (outputs (now archive) n (now heard) m) ⌝ }
     ensures { λ r. ⌜ Went write
         (arrays (now (times .entry)) (now (lengths .entry)) (now (bytes .entry)) (now (copies .entry))
         (now (numbers .entry)))
-        setting (now (input .entry)) (now (archive .entry)) n
+        setting (now (input .entry)) (outputs (now (archive .entry)) n (now (heard .entry)) m)
         (arrays (now (times .exit)) (now (lengths .exit)) (now (bytes .exit)) (now (copies .exit))
         (now (numbers .exit)))
-        (now (archive .exit)) r ⌝ }
+        (now (archive .exit)) (now (heard .exit)) r ⌝ }
 {
     let mut at: usize = 0;
     let mut rows = n;
+    let mut closings = m;
     loop {
         let t = take_some(
             write,
@@ -238,15 +395,19 @@ fn take_lines(
             &input[at..],
             archive,
             rows,
+            heard,
+            closings,
         );
         if !t.fits {
             return Pass {
                 fits: false,
                 rows: 0,
+                closings: 0,
             };
         }
         at += t.used;
         rows += t.rows;
+        closings += t.closings;
         if t.used == 0 {
             break;
         }
@@ -262,6 +423,8 @@ fn take_lines(
         &input[at..],
         archive,
         rows,
+        heard,
+        closings,
     )
 }
 
@@ -277,21 +440,24 @@ fn take_last(
     line: &[u8],
     archive: &mut [u8],
     n: usize,
+    heard: &mut [u8],
+    m: usize,
 ) -> Pass
     requires { ⌜ Ready write (arrays (now times) (now lengths) (now bytes) (now copies) (now numbers)) setting (now line)
-        (now archive) n × (isUnended (now line) ≡ true) ⌝ }
+        (outputs (now archive) n (now heard) m) × (isUnended (now line) ≡ true) ⌝ }
     ensures { λ r. ⌜ Went write
         (arrays (now (times .entry)) (now (lengths .entry)) (now (bytes .entry)) (now (copies .entry))
         (now (numbers .entry)))
-        setting (now (line .entry)) (now (archive .entry)) n
+        setting (now (line .entry)) (outputs (now (archive .entry)) n (now (heard .entry)) m)
         (arrays (now (times .exit)) (now (lengths .exit)) (now (bytes .exit)) (now (copies .exit))
         (now (numbers .exit)))
-        (now (archive .exit)) r ⌝ }
+        (now (archive .exit)) (now (heard .exit)) r ⌝ }
 {
     if line.len() == 0 {
         return Pass {
             fits: true,
             rows: n,
+            closings: m,
         };
     }
     let mut whole = [0u8; WHOLE];
@@ -307,10 +473,13 @@ fn take_last(
         &whole[0..end],
         archive,
         n,
+        heard,
+        m,
     );
     Pass {
         fits: t.fits,
         rows: n + t.rows,
+        closings: m + t.closings,
     }
 }
 
@@ -335,7 +504,8 @@ fn least(a: usize, b: usize) -> usize
     b
 }
 
-// Takes as many lines as the next block has room for rows, at most, and puts their rows into it where it is told to and they fit.
+// Takes as many lines as the next block has room for rows, at most, and puts their rows into it and what they close into
+// `heard`, where it is told to and both fit.
 fn take_some(
     write: bool,
     times: &mut [u64; CAPACITY],
@@ -347,38 +517,46 @@ fn take_some(
     input: &[u8],
     archive: &mut [u8],
     n: usize,
+    heard: &mut [u8],
+    m: usize,
 ) -> Turn
-    requires { ⌜ Callable (arrays (now times) (now lengths) (now bytes) (now copies) (now numbers)) setting (now archive) n ⌝ }
+    requires { ⌜ Callable (arrays (now times) (now lengths) (now bytes) (now copies) (now numbers)) setting
+        (outputs (now archive) n (now heard) m) ⌝ }
     ensures { λ r. ⌜ Turned write
         (arrays (now (times .entry)) (now (lengths .entry)) (now (bytes .entry)) (now (copies .entry))
         (now (numbers .entry)))
-        setting (now (input .entry)) (now (archive .entry)) n
+        setting (now (input .entry)) (outputs (now (archive .entry)) n (now (heard .entry)) m)
         (arrays (now (times .exit)) (now (lengths .exit)) (now (bytes .exit)) (now (copies .exit))
         (now (numbers .exit)))
-        (now (archive .exit)) r ⌝ }
+        (now (archive .exit)) (now (heard .exit)) r ⌝ }
 {
-    let mut text = text_buffer();
+    let mut text = buffer();
     let mut moments = [0u64; CELLS_PER_BLOCK];
     let mut rows = [0u8; ROWS];
-    let mut done = [0u64; c_lines::DONE];
+    let mut closed = buffer();
+    let mut done = [0u64; c_lines::formats::DONE];
     let most = CELLS_PER_BLOCK - n % CELLS_PER_BLOCK;
-    c_lines::lines(
+    c_lines::formats::lines_as(
         times,
         lengths,
         bytes,
         copies,
         numbers,
         setting,
+        TEXT,
         input,
         most,
         &mut text,
         &mut moments,
         &mut rows,
+        &mut closed,
         &mut done,
     );
     let used = done[0] as usize;
     let count = done[2] as usize;
-    let fits = count <= CELLS_PER_BLOCK * (archive.len() / BLOCK_LENGTH) - n;
+    let closings = done[4] as usize;
+    let fits = (count <= CELLS_PER_BLOCK * (archive.len() / BLOCK_LENGTH) - n)
+        & (closings <= heard.len() / CELL_LENGTH - m);
     put(
         write & fits,
         archive,
@@ -386,17 +564,19 @@ fn take_some(
         &moments[0..count],
         &rows[0..ROW_LENGTH * count],
     );
+    put_closings(write & fits, heard, m, &closed[0..CELL_LENGTH * closings]);
     Turn {
         used: used,
         rows: count,
+        closings: closings,
         fits: fits,
     }
 }
 
-fn text_buffer() -> [u8; TEXT]
-    ensures { λ r. ⌜ length r ≡ textLength ⌝ }
+fn buffer() -> [u8; BUFFER]
+    ensures { λ r. ⌜ length r ≡ bufferLength ⌝ }
 {
-    [0; TEXT]
+    [0; BUFFER]
 }
 
 // Puts rows into the block of row `n`, if it is to.
@@ -417,4 +597,17 @@ fn put(write: bool, archive: &mut [u8], n: usize, times: &[u64], rows: &[u8])
     let at = BLOCK_LENGTH * (n / CELLS_PER_BLOCK);
     let end = at + BLOCK_LENGTH;
     c_archive::put_rows(&mut archive[at..end], n, times, rows, &mut position);
+}
+
+// Puts what closed behind `m` other closings, if it is to.
+fn put_closings(write: bool, heard: &mut [u8], m: usize, cells: &[u8])
+    requires { ⌜ (write ≡ true → cellLength * m + length (now cells) ≤ length (now heard)) ⌝ }
+    ensures { λ _. ⌜ now (heard .exit)
+        ≡ cond write (sets (now (heard .entry)) (cellLength * m) (now (cells .entry))) (now (heard .entry)) ⌝ }
+{
+    if !write {
+        return;
+    }
+    let at = CELL_LENGTH * m;
+    bytes::copy(cells, &mut heard[at..]);
 }

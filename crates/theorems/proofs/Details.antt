@@ -180,6 +180,7 @@ lines = record {
   outputs-stay = history_archived_outputs.outputs-stay;
   closings-stay = history_archived_outputs.closings-stay;
   kept-log-reads-back = history_log.kept-read-back;
+  kept-state-starts = history_log.kept-state-starts;
 }
 
 rows : Rows

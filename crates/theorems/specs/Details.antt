@@ -236,8 +236,10 @@ pub record Lines : Type 1 where
   pub outputs-stay : history_archived_outputs.OutputsStay
   -- The same holds for a shared buffer for closings.
   pub closings-stay : history_archived_outputs.ClosingsStay
-  -- A log kept in any archive is read back: the rows that were there, and then the model's, in order.
+  -- A log kept in any archive is read back: the rows that were there, and then the model's, in order, and what the model closes.
   pub kept-log-reads-back : history_log.KeptReadBack
+  -- The state that is kept beside it is accepted, and is a state of the model of the disk, after all lines that were taken: a start can recover from it.
+  pub kept-state-starts : history_log.KeptStateStarts
 
 -- ---- the rows of a history, and the telegrams that close in it
 

@@ -105,7 +105,7 @@ pub record Collector : Type 0 where
   pub closings-follow-model : history_archived_closed.CallsClose
   -- If at each restart `skip_lines` skips as many lines as were taken, the calls take the front of the log: no line twice, and none is left out.
   pub restarts-leave-out-no-line : history_archived_places.RestartsCover
-  -- A whole log kept in a fresh archive leaves the archive of the receptions that the model keeps, and of the loose ones, and the model's image.
+  -- A whole log kept in a fresh archive leaves the archive of the receptions that the model keeps, and of the loose ones, what the model closes, and the tool's state of both.
   pub log-is-archived : history_log.FreshKept
 
 -- ---- archives, and reports of the totals in archives

@@ -1,5 +1,5 @@
 -- `history_log::go_through` meets its contract: the log on a fresh collector, and the image of where it leads.
-use mathlib.Core.Path.{_≡_, _∙_}
+use mathlib.Core.Path.{_∙_}
 use borrow.Author.Needs.{needs}
 use denote.Ref.{now}
 use Rattle.base_lists.proofs.Choice.{both}
@@ -11,19 +11,21 @@ abbrev made : tie.After-take-log → tie.After-fresh
 made c =
     let a = c .before .before .before in
     let b = a .before .before .before in
-    b .before
+    b .before .before
 
 abbrev start : tie.After-fresh → tie.Start
 start c =
     let a = c .before .before .before in
     let b = a .before .before .before in
-    b .before .before .before
+    let d = b .before .before in
+    d .before .before
 
 abbrev took : tie.After-park-arg → tie.After-take-log
 took c =
     let a = c .before .before .before in
     let b = a .before .before .before in
-    b .before .before .before
+    let d = b .before .before .before in
+    d .before .before
 
 park-requires : tie.Need-park-requires
 park-requires c κs =
@@ -49,6 +51,7 @@ go-through-spec =
     (λ c κs. search needs)
     (λ c κs. search needs)
     park-requires
+    (λ c. search needs)
     (λ c. search needs)
     (λ c. search needs)
     returns)

@@ -1,5 +1,4 @@
 -- `history_log::park` meets its contract: nothing is to be written, or a checkpoint that is not refused.
-use mathlib.Core.Path.{_≡_}
 use borrow.Author.Needs.{needs}
 use borrow.Author.Tests.{not-true, not-false}
 use denote.Ref.{now}

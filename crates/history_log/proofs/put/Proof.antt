@@ -1,5 +1,5 @@
 -- `history_log::put` meets its contract: nothing is to be put, or the block of the next row is lent to `put_rows`.
-use mathlib.Core.Path.{_≡_, refl, sym, ap}
+use mathlib.Core.Path.{sym, ap}
 use Prim.Native.Nat.{_/_, _^_, _<_}
 use native.Mathlib.Omega.{arith}
 use lib.ListN.{length}

@@ -17,7 +17,7 @@ use Rattle.history_log.proofs.take_log.Tie as tie
 -- ---- the places
 
 abbrev start : tie.After-first-line → tie.Start
-start c = let a = c .before .before in a .before .before
+start c = let a = c .before .before in a .before .before .before
 
 abbrev level : tie.After-take-lines-arg5 → tie.Else1
 level c = let a = c .before .before .before in a .before .before
@@ -45,30 +45,31 @@ returns : tie.Need-returns
 returns c =
     let f = c .before in
     let s = start f in
-    none-logged (s .args .write) (log f) (now (s .args .archive)) (s .args .n) (s .pre .1) (f .first-line .result)
-    (f .first-line .ensures .0) (lent f) (s .pre .0) (c .if1 .taken)
+    none-logged (s .args .write) (log f) (now (s .args .archive)) (s .args .n) (now (s .args .heard))
+    (s .pre .1) (f .first-line .result) (f .first-line .ensures .0) (lent f) (s .pre .0) (c .if1 .taken)
 
 take-lines-requires : tie.Need-take-lines-requires
 take-lines-requires c κs =
-    let k = c .before .before in
+    let k = c .before .before .before in
     let f = first k in
     let s = start f in
     let rest = take-rest (log f) (length (log f)) (getD (f .first-line .last .1 .0) 0 0) refl in
     rw (rest, used f)
-    (first-ready (s .args .write) (log f) (now (s .args .archive)) (s .args .n) (s .pre .1) (f .first-line .result)
-    (f .first-line .ensures .0) (lent f) (s .pre .0) (level k .if1 .left))
+    (first-ready (s .args .write) (log f) (now (s .args .archive)) (s .args .n) (now (s .args .heard))
+    (s .pre .1) (f .first-line .result) (f .first-line .ensures .0) (lent f) (s .pre .0) (level k .if1 .left))
 
 returns-2 : tie.Need-returns-2
 returns-2 c =
-    let t = c .before .before in
+    let h = c .before .before in
+    let t = h .before .before in
     let a = t .before in
-    let k = a .before .before in
+    let k = a .before .before .before in
     let f = first k in
     let s = start f in
     let rest = take-rest (log f) (length (log f)) (getD (f .first-line .last .1 .0) 0 0) refl in
-    first-logged (s .args .write) (log f) (now (s .args .archive)) (s .args .n) (s .pre .1) (f .first-line .result)
-    (f .first-line .ensures .0) (lent f) (s .pre .0) (level k .if1 .left) (t .take-lines .result)
-    (rw (rest, used f) at (t .take-lines .ensures))
+    first-logged (s .args .write) (log f) (now (s .args .archive)) (s .args .n) (now (s .args .heard))
+    (s .pre .1) (f .first-line .result) (f .first-line .ensures .0) (lent f) (s .pre .0) (level k .if1 .left)
+    (t .take-lines .result) (rw (rest, used f) at (t .take-lines .ensures))
 
 pub take-log-spec : {M : Type 1} → statement M
 take-log-spec =
@@ -81,5 +82,6 @@ take-log-spec =
     (λ c. within (first c))
     (λ c. search needs)
     take-lines-requires
+    (λ c. search needs)
     (λ c. search needs)
     returns-2)
