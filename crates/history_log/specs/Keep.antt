@@ -28,7 +28,7 @@ use Rattle.history_log.specs.declared.Kept.{Kept}
 
 -- ---- the collector after a log, by the reference model
 
--- the receptions of the lines behind a first line `level N`, newest first; any other first line ends the run
+-- the receptions of the lines after a first line `level N`, newest first; any other first line ends the run
 abbrev pub pastWith : Setting → List (List ℕ) → List Reception
 pastWith (Setting.Level n) ls = pastAfterLines [] ls
 pastWith Setting.Bad ls = []
@@ -38,25 +38,27 @@ abbrev pub pastFor : List (List ℕ) → List Reception
 pastFor [] = []
 pastFor (l ∷ ls) = pastWith (settingOf l) ls
 
+-- the collector after all lines
 unfoldable pub stateAfterLog : List ℕ → View
 stateAfterLog log = modelView (logOf (pastFor (linesOf log)))
 
 -- ---- the state of the plant's tool after a log that came on standard input
 
--- the text that is taken: all, or nothing where no right first line has ended
+-- the text that is taken: all, or nothing if the first line says no level or has not ended
 unfoldable pub takenOf : List ℕ → List ℕ
 takenOf log = cond (leb (firstNumber log) 2) log []
 
--- lines taken; the archive's rows before; the length of its name; the place in the log, and how many bytes before it
+-- lines taken; rows that the archive had before; length of its name; position in the log, and how many bytes before it
 -- are kept; no file for rows
 abbrev pub stateNumbers : (lines had name offset tail : ℕ) → List ℕ
 stateNumbers lines had name offset tail =
     lines ∷ 0 ∷ had ∷ 0 ∷ name ∷ 1 ∷ offset ∷ 0 ∷ 0 ∷ tail ∷ 0 ∷ 0 ∷ 0 ∷ 0 ∷ []
 
--- the last bytes of a text, at most 512
+-- how many of the last bytes of a text are kept, at most 512
 abbrev pub tailLengthOf : List ℕ → ℕ
 tailLengthOf text = min (length text) state.maxTail
 
+-- these bytes, with zeros after them
 abbrev pub tailOf : List ℕ → List ℕ
 tailOf text = resized state.maxTail (drop (length text - tailLengthOf text) text)
 
@@ -99,12 +101,12 @@ keepingOf r archive heard state = record {
   state = state;
 }
 
--- a refusal, beside which all three are as they were
+-- a refusal: the numbers that go with it
 abbrev pub refusedKept : ℕ → ℕ → Kept
 refusedKept number position =
     record { number = number; position = position; rows = 0; closings = 0; lines = 0 }
 
--- a name of no byte, or of too many
+-- a name of no byte, or of more than 255
 abbrev pub isNoName : List ℕ → Bool
 isNoName name = eqb (length name) 0 || ltb state.maxName (length name)
 
@@ -114,9 +116,9 @@ hasNoRoom log archive heard =
     ltb (capacityOf (length archive)) (length (rowsIn archive ++ archivedOf log))
     || ltb (length heard) (length (entryCells (closedOf log)))
 
--- 16, 12 with its position; 10 for a name that is none; 6 where rows or closings have no room; else the archive of its
--- rows and those that the reference model keeps of the log, what the model closes at the front of `heard`, and the bytes
--- of the tool's state
+-- refused: 16, or 12 with its position, for the archive; 10 for the name; 6 if rows or closings do not fit; then all is
+-- unchanged. Else the archive of its rows and those that the reference model keeps of the log, what the model closes at
+-- the front of `heard`, and the bytes of the tool's state
 unfoldable pub keepOf : (log archive heard name bytes : List ℕ) → Keeping
 keepOf log archive heard name bytes =
     let rows = rowsIn archive ++ archivedOf log in

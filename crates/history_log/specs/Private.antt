@@ -1,4 +1,4 @@
--- What the private functions say: nobody else need read it.
+-- What the private functions promise: only their proofs need it.
 use Prim.Native.Nat.{ℕ, _+_, _-_, _*_, _/_, _%_, _≤_}
 use mathlib.Core.Path.{_≡_}
 use mathlib.Core.Bool.{Bool, true, false, cond, _&&_}
@@ -55,7 +55,7 @@ putIn archive n rows =
     let k = n / cellsPerBlock in
     cond (eqb (length rows) 0) archive (withBlock k (putRowsOf (blockAt k archive) n rows .buffer) archive)
 
--- an archive has these rows behind its own
+-- an archive with these rows after its own
 pub record Grown (archive : List ℕ) (more : List Row) (archive' : List ℕ) : Type 0 where
   pub right : verdict archive' .number ≡ 0
   pub rows : rowsIn archive' ≡ rowsIn archive ++ more
@@ -68,14 +68,14 @@ abbrev pub lastIn : List ℕ → ℕ → List ℕ
 lastIn archive rows =
     cond (eqb rows 0) (replicate {A = ℕ} blockLength 0) (blockAt ((rows - 1) / cellsPerBlock) archive)
 
--- the state of these, as it is written
+-- the state with these parts, as it is written
 abbrev pub noteWith : (log archive : List ℕ) (had rows : ℕ) (name image : List ℕ) → state.Kept
 noteWith log archive had rows name image =
     let text = takenOf log in
     state.kept (stateNumbers (length (linesOf text)) had (length name) (length text) (tailLengthOf text))
     (resized state.maxName name) (lastIn archive rows) image (tailOf text)
 
--- it was written, where it is lawful
+-- it was written, if it is lawful
 pub record Noted (log archive : List ℕ) (had rows : ℕ) (name image old new : List ℕ) (r : ℕ) : Type 0 where
   pub lines : r ≡ length (linesOf (takenOf log))
   pub bytes : new ≡ writeOf (noteWith log archive had rows name image) old .output
@@ -106,7 +106,7 @@ haveRoom o rows cells =
 
 -- ---- lines
 
--- where a run stands, and what a text gives from there on
+-- the phase of a run, and what a text gives from there on
 abbrev pub phaseAt : ℕ → Arrays → Phase Receiver
 phaseAt setting s = runningAt setting (stateAt s)
 
@@ -123,20 +123,20 @@ cellsGiven s text = feedText (lineClosings true) lineLimit (atLineStart s) text
 abbrev pub cellsSaid : Phase Receiver → List ℕ → List ℕ
 cellsSaid s input = outputOf (lineClosings true) s input
 
--- a call of `lines_as` is not refused, and what there is has room
+-- a call of `lines_as` is not refused, and what the outputs have fits
 pub record Callable (s : Arrays) (setting : ℕ) (o : Outputs) : Type 0 where
   pub accepted : acceptable (stateAt s) ≡ true
   pub level : setting ≤ 2
   pub room : OutputsFit o
 
--- the text can be taken, and its rows put behind those of the archive
+-- the text can be taken, and its rows can be put after those of the archive
 pub record Ready (write : Bool) (s : Arrays) (setting : ℕ) (input : List ℕ) (o : Outputs) : Type 0 where
   pub callable : Callable s setting o
   pub fits : Fits (stateAt s)
   pub fit : all isFit (rowsSaid (phaseAt setting s) input) ≡ true
   pub holds : write ≡ true → Holds (o .archive) (o .rows)
 
--- whole lines were taken from s on to s', and their rows and closings put where they were to be and fit
+-- whole lines were taken from s on to s'; their rows and closings were put, if they were to be and fit
 pub record Turned (write : Bool) (s : Arrays) (setting : ℕ) (input : List ℕ) (o : Outputs) (s' : Arrays)
     (archive' heard' : List ℕ) (r : Turn) : Type 0 where
   pub within : r .used ≤ length input
@@ -164,8 +164,8 @@ pub record Turned (write : Bool) (s : Arrays) (setting : ℕ) (input : List ℕ)
       (sets (o .heard) (cellLength * o .closings) (cellsGiven (phaseAt setting s) (take (r .used) input)))
       (o .heard)
 
--- a text was gone through: its rows stand in the archive, and what it closes behind the other closings, where they were
--- to be and fit
+-- a text was gone through: its rows are in the archive, and what it closes is after the other closings, if they were to
+-- be put and fit
 pub record TextPassed (write : Bool) (rows : List Row) (cells : List ℕ) (o : Outputs) (archive' heard' : List ℕ)
     (r : Pass) : Type 0 where
   pub fits : r .fits ≡ haveRoom o (length rows) (length cells)
@@ -178,7 +178,7 @@ pub record TextPassed (write : Bool) (rows : List Row) (cells : List ℕ) (o : O
 
 -- ---- the collector
 
--- the image of the collector where a run stands
+-- the image of the collector in a phase of a run
 abbrev pub imageAt : Phase Receiver → List ℕ
 imageAt starting = imageOf fresh
 imageAt (running c) = imageOf (c .view)
@@ -188,7 +188,7 @@ imageAt over = imageOf fresh
 abbrev pub states : Program (Phase Receiver)
 states = record { next = nextPhase modelCollector; text = λ s l. []; end = imageAt }
 
--- the text was gone through, and the collector stands where it leads
+-- the text was gone through, and the collector is in the state that it leads to
 pub record Went (write : Bool) (s : Arrays) (setting : ℕ) (input : List ℕ) (o : Outputs) (s' : Arrays)
     (archive' heard' : List ℕ)
     (r : Pass) : Type 0 where
@@ -204,7 +204,7 @@ pub record LogPassed (write : Bool) (log : List ℕ) (o : Outputs) (s' : Arrays)
   pub left : r .fits ≡ true → imageOf (stateAt s') ≡ imageOf (stateAfterLog log)
   pub accepted : r .fits ≡ true → acceptable (stateAt s') ≡ true
 
--- a log was gone through, and the image is written where it was to be, and all fits
+-- a log was gone through; the image is written, if it was to be and all fits
 pub record WentThrough (write : Bool) (log : List ℕ) (o : Outputs) (image archive' heard' image' : List ℕ)
     (r : Pass) : Type 0 where
   pub passed : TextPassed write (archivedOf log) (entryCells (closedOf log)) o archive' heard' r

@@ -1,4 +1,4 @@
-// A whole log kept in an archive, by the calls that ship and nothing else: what the plant's tool does where nothing disturbs it.
+// A whole log kept in an archive, by the calls that ship and nothing else: what the plant's tool does when nothing disturbs it.
 use archive_fill::ROW_LENGTH;
 use base_refusal::Refusal;
 use block_layout::BLOCK_LENGTH;
@@ -34,20 +34,20 @@ ghost use Rattle.journal_state.specs.State.{maxName};
 ghost use Rattle.history_log.specs.Keep.{takenOf, stateNumbers, capacityOf, keepingOf, refusedKept, keepOf};
 ghost use Rattle.history_log.specs.Private.{bufferLength, putIn, lastIn, Noted, outputs, Holds, Ready, Callable, Turned, Went, LogPassed, WentThrough};
 
-// Room for the text of 15 lines, which is not used; and for what two of them close.
+// The length of two buffers: one for the text of 15 lines, which is not used, and one for what two lines can close.
 const BUFFER: usize = 4096;
 
-// Rows as text.
+// The format of that text.
 const TEXT: u8 = 0;
 
-// The records of the rows of a block.
+// The length of the records of the rows of a block.
 const ROWS: usize = ROW_LENGTH * CELLS_PER_BLOCK;
 
-// What tells a line, and a newline.
+// The characters of a line that can matter, and a newline.
 const WHOLE: usize = LINE_LIMIT + 1;
 
-// 0 or the number of a refusal, the position beside 12, how many rows the archive then has, how many telegrams the log closes, and how
-// many lines were taken.
+// 0 or the number of a refusal; the position that goes with 12; then the number of rows in the archive, of telegrams that the log closes, and of lines
+// that were taken.
 pub struct Kept {
     pub number: u8,
     pub position: usize,
@@ -56,14 +56,14 @@ pub struct Kept {
     pub lines: usize,
 }
 
-// Whether the rows of a text and what it closes fit, and how many rows and closings there then are.
+// Whether the rows of a text and what it closes fit, and the number of rows and closings after it.
 pub(crate) struct Pass {
     pub fits: bool,
     pub rows: usize,
     pub closings: usize,
 }
 
-// How many characters some lines are, their rows and closings, and whether these fit.
+// The number of characters, rows and closings of some lines, and whether the rows and closings fit.
 pub(crate) struct Turn {
     pub used: usize,
     pub rows: usize,
@@ -71,9 +71,9 @@ pub(crate) struct Turn {
     pub fits: bool,
 }
 
-// Puts the rows of a log behind those of an archive of this name, what it closes into the first bytes of `heard`, 32 bytes for each
-// telegram, and the tool's state then into `state`: 16, 12 with the position; 10 for a name of no byte or of more than 255; 6 where rows
-// or closings have no room; then all three are as they were.
+// Appends the rows of a log to an archive with this name, writes what the log closes to the front of `heard`, 32 bytes for each telegram, and writes the
+// tool's state after it to `state`. Refused: 16; 12 with the position; 10 for a name of no byte or of more than 255; 6 if rows or closings do not fit. Then
+// all three are unchanged.
 pub fn keep(
     log: &[u8],
     archive: &mut [u8],
@@ -127,8 +127,8 @@ fn blank_image() -> [u8; IMAGE_LENGTH]
     [0; IMAGE_LENGTH]
 }
 
-// Writes the tool's state after a log that came on standard input, where the archive had `had` rows before it and has `rows` now; how
-// many lines were taken.
+// Writes the tool's state after a log that came on standard input. The archive had `had` rows before it and has `rows` now. Returns the number of lines
+// that were taken.
 fn put_state(
     log: &[u8],
     archive: &[u8],
@@ -188,7 +188,7 @@ fn name_field(name: &[u8]) -> [u8; NAME_LENGTH]
     out
 }
 
-// The first bytes of a text in a block, with zeros behind them.
+// A block with the first bytes of a text, and zeros after them.
 fn block_of(text: &[u8]) -> [u8; BLOCK_LENGTH]
     ensures { λ r. ⌜ r ≡ resized blockLength (now (text .entry)) ⌝ }
 {
@@ -197,7 +197,7 @@ fn block_of(text: &[u8]) -> [u8; BLOCK_LENGTH]
     out
 }
 
-// The block with the last of so many rows; zeros where there is none.
+// The block with the last row of an archive with so many rows; zeros if there is no row.
 fn last_block(archive: &[u8], rows: usize) -> [u8; BLOCK_LENGTH]
     requires { ⌜ rows ≤ capacityOf (length (now archive)) ⌝ }
     ensures { λ r. ⌜ r ≡ lastIn (now (archive .entry)) rows ⌝ }
@@ -210,7 +210,7 @@ fn last_block(archive: &[u8], rows: usize) -> [u8; BLOCK_LENGTH]
     block_of(&archive[at..end])
 }
 
-// How many characters of a log are taken: all, or none where its first line is not right.
+// The number of characters of a log that are taken: all, or none if its first line says no level.
 fn taken(log: &[u8]) -> usize
     ensures { λ r. ⌜ r ≡ length (takenOf (now (log .entry))) ⌝ }
 {
@@ -222,7 +222,7 @@ fn taken(log: &[u8]) -> usize
     log.len()
 }
 
-// How many lines a text has; a last one without a newline counts.
+// The number of lines of a text; a last line without a newline counts.
 fn count_lines(text: &[u8]) -> usize
     ensures { λ r. ⌜ r ≡ length (linesOf (now (text .entry))) ⌝ }
 {
@@ -236,7 +236,7 @@ fn count_lines(text: &[u8]) -> usize
     lines
 }
 
-// Takes the log by a fresh collector, and puts its rows behind the `n` of the archive, what it closes, and the image, where it is told to.
+// Takes the log with a fresh collector. If `write` says so, appends its rows to the `n` rows of the archive, and writes what it closes and the image.
 fn go_through(
     write: bool,
     log: &[u8],
@@ -285,7 +285,7 @@ fn go_through(
     p
 }
 
-// Takes the log from its first line on.
+// Takes the log, first line included.
 fn take_log(
     write: bool,
     times: &mut [u64; CAPACITY],
@@ -331,7 +331,7 @@ fn take_log(
     )
 }
 
-// Writes the image, if it is to.
+// Writes the image, if `write` says so.
 fn park<'a>(
     write: bool,
     times: &'a [u64; CAPACITY],
@@ -355,7 +355,7 @@ fn park<'a>(
     c_checkpoint::checkpoint(times, lengths, bytes, copies, numbers, image);
 }
 
-// Takes all whole lines of the input, as often as a call stops, and then what is left of a line.
+// Takes all whole lines of the input, in as many calls as it needs, and then the rest of the input, which is no whole line.
 fn take_lines(
     write: bool,
     times: &mut [u64; CAPACITY],
@@ -483,7 +483,7 @@ fn take_last(
     }
 }
 
-// What tells a line, with a newline behind it; how many characters that is.
+// The characters of a line that can matter, and a newline after them; returns their number.
 fn end_line(line: &[u8], whole: &mut [u8]) -> usize
     requires { ⌜ length (now whole) ≡ lineLimit + 1 ⌝ }
     ensures { λ r. ⌜ (r ≡ min (length (now (line .entry))) lineLimit + 1)
@@ -504,8 +504,8 @@ fn least(a: usize, b: usize) -> usize
     b
 }
 
-// Takes as many lines as the next block has room for rows, at most, and puts their rows into it and what they close into
-// `heard`, where it is told to and both fit.
+// Takes at most as many lines as the next block has room for rows. If `write` says so and they fit, puts their rows into the block and what they close into
+// `heard`.
 fn take_some(
     write: bool,
     times: &mut [u64; CAPACITY],
@@ -579,7 +579,7 @@ fn buffer() -> [u8; BUFFER]
     [0; BUFFER]
 }
 
-// Puts rows into the block of row `n`, if it is to.
+// Puts rows into the block of row `n`, if `write` says so.
 fn put(write: bool, archive: &mut [u8], n: usize, times: &[u64], rows: &[u8])
     requires { ⌜ (length (now rows) ≡ rowLength * length (now times))
         × (write ≡ true → 0 < length (now times) → n / cellsPerBlock < length (now archive) / blockLength) ⌝ }
@@ -599,7 +599,7 @@ fn put(write: bool, archive: &mut [u8], n: usize, times: &[u64], rows: &[u8])
     c_archive::put_rows(&mut archive[at..end], n, times, rows, &mut position);
 }
 
-// Puts what closed behind `m` other closings, if it is to.
+// Puts what closed after `m` other closings, if `write` says so.
 fn put_closings(write: bool, heard: &mut [u8], m: usize, cells: &[u8])
     requires { ⌜ (write ≡ true → cellLength * m + length (now cells) ≤ length (now heard)) ⌝ }
     ensures { λ _. ⌜ now (heard .exit)
