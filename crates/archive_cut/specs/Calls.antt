@@ -1,4 +1,4 @@
--- The results of the calls, as the model names them.
+-- The answer of `cut_block` and the block after it, as one record that the definitions can be compared with.
 use Prim.Native.Nat.{ℕ}
 use mathlib.Core.List.{List}
 use Rattle.base_refusal.specs.declared.Outcome.{Outcome}

@@ -16,7 +16,7 @@ FirstRowsRemain =
     → (verdict (cutOf m buffer .buffer) .number ≡ 0) × (rowsIn (cutOf m buffer .buffer) ≡ take m (rowsIn buffer))
     × (length (cutOf m buffer .buffer) ≡ length buffer)
 
--- Again: a second cut at the same row changes nothing.
+-- Again: a second cut to the same number of rows is answered 0 and changes nothing.
 abbrev pub CutAgain : Type 0
 CutAgain =
     (m : ℕ) (buffer : List ℕ) → cutOf m buffer .number ≡ 0
@@ -28,8 +28,8 @@ Undone =
     (m : ℕ) (buffer : List ℕ) → cutOf m buffer .number ≡ 0
     → afterAppends (cutOf m buffer .buffer) (drop m (rowsIn buffer)) ≡ buffer
 
--- One block: if rows are cut off, the blocks before block m / 15 stay, that block is cut by itself, and the blocks
--- after it are zero.
+-- One block: if rows are cut off, the blocks before block m / 15 stay, that block becomes what `cut_block` makes of it
+-- for m % 15 rows, and the blocks after it are zero.
 abbrev pub AtOneBlock : Type 0
 AtOneBlock =
     (m : ℕ) (buffer : List ℕ) → verdict buffer .number ≡ 0 → m < length (rowsIn buffer)
@@ -40,8 +40,8 @@ AtOneBlock =
     ++ cutBlockOf (m % cellsPerBlock) (blockAt (m / cellsPerBlock) buffer) .block
     ++ replicate (length buffer - (blockLength * (m / cellsPerBlock) + blockLength)) 0))
 
--- From the end: zeros from block k on cut an archive at that block. So a file whose blocks are cleared from the last
--- one on stays an archive.
+-- Zeros behind: if block k has rows, an archive with zeros from block k on is the archive cut to the 15 k rows before
+-- that block. So if blocks of a file are cleared one by one, the last one first, the file stays an archive.
 abbrev pub ZerosBehind : Type 0
 ZerosBehind =
     (k : ℕ) (buffer : List ℕ) → verdict buffer .number ≡ 0 → cellsPerBlock * k < length (rowsIn buffer)

@@ -14,8 +14,8 @@ use Rattle.archive_model.specs.Append.{verdict, Appended, refusedAppend, stored
 
 -- ---- an archive
 
--- the archive cut to its first m rows, in the same buffer. Refused with 16 or 12 as `verdict` says, and with 10 if the
--- archive has fewer rows.
+-- the archive cut to its first m rows, in the same buffer. Refused: 16 for a wrong length, 12 for a block that does not
+-- match (both as `verdict` says), and 10 if the archive has fewer rows. Then the buffer is unchanged.
 unfoldable pub cutOf : ℕ → List ℕ → Appended
 cutOf m buffer =
     cond (not (eqb (verdict buffer .number) 0))
@@ -29,12 +29,13 @@ cutOf m buffer =
 unfoldable pub firstRows : ℕ → List ℕ → List ℕ
 firstRows m block = cond (eqb m 0) (replicate blockLength 0) (rowsBlock (blockNumber block) (take m (rowsOf block)))
 
--- the number, and every byte of the block after the call
+-- 0 or the number of a refusal, and every byte of the block after the call
 pub record CutBlock : Type 0 where
   pub number : ℕ
   pub block : List ℕ
 
--- one block cut to its first m rows: 16 for a wrong length, 12 for a block that isn't sound or has fewer rows
+-- one block cut to its first m rows. Refused: 16 for a wrong length, 12 for a block that isn't sound or has fewer rows;
+-- then it is unchanged. (A block of zeros isn't sound.)
 unfoldable pub cutBlockOf : ℕ → List ℕ → CutBlock
 cutBlockOf m block =
     cond (not (eqb (length block) blockLength)) (record { number = numberOf Size; block = block })

@@ -6,7 +6,7 @@ use Rattle.base_buffers.specs.Buffer.{part}
 use Rattle.block_layout.specs.Cell.{cellLength}
 use Rattle.block_layout.specs.Block.{headerLength, bodyLength, sealed}
 
--- a block with the count m, its first m cells, zeros after them, and the CRC
+-- a block with the count m, its first m cells (a cell has the 32 bytes of a row), zeros after them, and the new CRC
 unfoldable pub keptRows : ℕ → List ℕ → List ℕ
 keptRows m block =
     sealed (padded bodyLength (part 0 4 block ++ (m ∷ []) ++ part 5 (headerLength + cellLength * m - 5) block))

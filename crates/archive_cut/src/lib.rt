@@ -21,7 +21,7 @@ ghost use Rattle.archive_cut.specs.Cut.{firstRows, cutBlockOf, cutOf};
 ghost use Rattle.archive_cut.specs.Calls.{cutBlockResult};
 ghost use Rattle.archive_cut.specs.Private.{keptRows};
 
-// Keeps the first `rows` rows of a block: writes their count, zeros after them, and the CRC.
+// Keeps the first `rows` rows of a block: writes their count, zeros after them, and the new CRC.
 fn keep_rows(block: &mut [u8], rows: usize)
     requires { ⌜ (length (now block) ≡ blockLength) × (rows ≤ cellsPerBlock) ⌝ }
     ensures { λ _. ⌜ now (block .exit) ≡ keptRows rows (now (block .entry)) ⌝ }
@@ -32,7 +32,7 @@ fn keep_rows(block: &mut [u8], rows: usize)
     block_layout::seal(block);
 }
 
-// Cuts a sound block of at least `rows` rows to the first of them; it is all zero for none.
+// Cuts a sound block, which has at least `rows` rows, to its first `rows` rows. For 0 rows it clears the block.
 fn shorten(block: &mut [u8], rows: usize)
     requires { ⌜ (isSound (now block) ≡ true) × (rows ≤ rowCount (now block)) ⌝ }
     ensures { λ _. ⌜ now (block .exit) ≡ firstRows rows (now (block .entry)) ⌝ }
@@ -44,8 +44,8 @@ fn shorten(block: &mut [u8], rows: usize)
     keep_rows(block, rows);
 }
 
-// Cuts one block to its first `rows` rows; it is all zero for none. Refused: 16 for a wrong length, 12 for a block that isn't sound or has fewer
-// rows; then it is unchanged.
+// Cuts one block to its first `rows` rows. For 0 rows it clears the block. Refused: 16 for a wrong length, 12 for a block that isn't sound or has fewer
+// rows. Then the block is unchanged.
 pub fn cut_block(block: &mut [u8], rows: usize) -> Outcome
     ensures { λ r. ⌜ cutBlockResult r (now (block .exit)) ≡ cutBlockOf rows (now (block .entry)) ⌝ }
 {
@@ -63,7 +63,8 @@ pub fn cut_block(block: &mut [u8], rows: usize) -> Outcome
     Outcome::Done
 }
 
-// Cuts an archive to its first `rows` rows. Refused: 16, 12 with the position, 10 if it has fewer; then the buffer is unchanged.
+// Cuts an archive to its first `rows` rows. Refused: 16 for a wrong length, 12 with the position of the first block that does not match, 10 if it has fewer rows. Then the
+// buffer is unchanged.
 pub fn cut(buffer: &mut [u8], rows: usize) -> ArchiveOutcome
     ensures { λ r. ⌜ appendResult r (now (buffer .exit)) ≡ cutOf rows (now (buffer .entry)) ⌝ }
 {
@@ -75,7 +76,7 @@ pub fn cut(buffer: &mut [u8], rows: usize) -> ArchiveOutcome
     }
 }
 
-// The same for an archive of `n` rows.
+// Cuts a verified archive, which has `n` rows. Refused: 10 if `n` is less than `rows`.
 fn cut_from(buffer: &mut [u8], n: usize, rows: usize) -> ArchiveOutcome
     requires { ⌜ (verdict (now buffer) .number ≡ 0) × (n ≡ length (rowsIn (now buffer))) ⌝ }
     ensures { λ r. ⌜ appendResult r (now (buffer .exit)) ≡ cutOf rows (now (buffer .entry)) ⌝ }
@@ -90,7 +91,8 @@ fn cut_from(buffer: &mut [u8], n: usize, rows: usize) -> ArchiveOutcome
     ArchiveOutcome::Done
 }
 
-// The same if it has more: the block in which the first `rows` rows end is cut, and the blocks after it are cleared.
+// Cuts a verified archive that has more than `rows` rows: block `rows` / 15, which has the first row to go, is cut to `rows` % 15 rows, and the blocks
+// after it are cleared.
 fn take_back(buffer: &mut [u8], rows: usize)
     requires { ⌜ (verdict (now buffer) .number ≡ 0) × (rows < length (rowsIn (now buffer))) ⌝ }
     ensures { λ _. ⌜ now (buffer .exit)
