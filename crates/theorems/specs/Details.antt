@@ -76,9 +76,9 @@ pub record Telegrams : Type 0 where
   pub erp2-rest-is-zero : radio_erp2_model.NormalRead
   -- The sizes of ERP2 fields are those in the tables of document 004.
   pub erp2-tables-hold : radio_erp2_model.Figures
-  -- The fields that another language gets for a telegram say that telegram again.
+  -- The bytes in which another language gets the fields of a telegram read back as the same fields.
   pub fields-for-c-come-back : c_codec.SaidAgain
-  -- So do the fields that it gets for an ERP2 telegram.
+  -- So do the bytes for an ERP2 telegram.
   pub erp2-fields-for-c-come-back : c_erp2.SaidAgain
 
 -- ---- slot plans
@@ -100,7 +100,7 @@ pub record SlotPlans : Type 0 where
   pub standard-is-default : plan_rules.StandardSame
   -- Under the compressed rule no plan is lawful at level 2, and the answer is 9.
   pub compressed-has-no-level-2 : plan_rules.CompressedLevel2
-  -- If the plans of several repeaters are not accepted, the answer names the first unlawful plan, or else the first two plans that overlap.
+  -- If the arguments are in range, and the plans are not accepted, the answer names the first unlawful plan, or else the first two plans that overlap.
   pub first-is-named : (count : ℕ) (repeaters : List Assignment) → plan_site.NamesTheFirst count repeaters
   -- One repeater with a plan that was drawn is accepted.
   pub drawn-plans-are-accepted : plan_site.DrawnAccepted
@@ -110,19 +110,19 @@ pub record SlotPlans : Type 0 where
 pub record Model : Type 0 where
   -- A copy is counted for the latest open telegram that is the same, and for no other.
   pub latest-is-credited : collector_model_latest.LatestCredited
-  -- A restore accepts several entries of one telegram exactly if each but the first was opened more than 40 ms after the one before and has level 0.
+  -- The test of a restore on every two open telegrams says: they are in order of time, and if one is the same as one before, it has level 0 and opened more than 40 ms later.
   pub several-entries-are-apart : collector_model_several.SeveralEntries
   -- Each copy is counted for one telegram: the numbers of copies sum to the total of copies.
   pub copies-count-once : collector_model_copies.EachCountedOnce
   -- Asked for the copies of an open telegram, the model answers how many copies of it were received, and at most 65,535.
   pub asked-copies-are-answers : collector_model_copies.HeardIsAnswers
-  -- Below that limit no number of copies is cut off.
+  -- Up to that limit no number of copies is cut off.
   pub below-limit-is-exact : collector_model_copies.BelowCeiling
   -- Whether a state is accepted does not depend on its numbers of copies.
   pub any-number-is-accepted : collector_model_copies.AnyNumber
-  -- In the model, the same receptions get the same answers, one by one or in groups of any size.
+  -- In the model, the same receptions get the same answers, one by one or in groups of up to 256.
   pub model-groups-change-nothing : collector_model_division.AnyDivision
-  -- In the model, other sensors do not change a sensor's answers, as long as none is loose and time does not go back.
+  -- In the model, other sensors do not change a sensor's answers, under the conditions of Theorems.antt: fewer than 2^64, none loose, time does not go back.
   pub model-sensors-are-independent : collector_model_isolation.AnswersIsolated
   -- Nor do they change its open telegrams and their numbers of copies, directly after one of its receptions.
   pub model-copies-are-independent : collector_model_isolation.EntriesIsolated
@@ -132,13 +132,13 @@ pub record Model : Type 0 where
 pub record Code : Type 1 where
   -- All that such a program answers equals the model's answers, and those of a run without restarts.
   pub contracts-give-histories : {State : Type 0} (view : State → View) → collector_model_states.StatesAgree view
-  -- It gives the same answers to the same receptions, one by one or in groups of any size.
+  -- It gives the same answers to the same receptions, one by one or in groups of up to 256.
   pub contracts-give-divisions : {State : Type 0} (view : State → View) → collector_model_states.StatesDivide view
   -- Its state after the calls is the model's.
   pub contracts-give-state : {State : Type 0} (view : State → View) → collector_model_states.StatesLeft view
-  -- Its answers to one sensor do not depend on other sensors, as long as none is loose and time does not go back.
+  -- Its answers to one sensor do not depend on other sensors, under the same conditions.
   pub contracts-give-independence : {State : Type 0} (view : State → View) → collector_model_isolation.StatesIsolated view
-  -- The number that `take` returns tells which answer it is.
+  -- The number that the call `take`, which takes one reception, returns tells which answer it is.
   pub numbers-tell-answers : history_calls_answers.AnswersBack
   -- The 24 bytes that a burst, a call with several receptions, writes for a reception tell its answer and what to send.
   pub bytes-tell-replies : history_calls_answers.RepliesBack
@@ -148,11 +148,11 @@ pub record Code : Type 1 where
   pub every-element-is-known : history_calls.ArraysElements
   -- A second set of calls, which take the state and return the next one, follows the model too.
   pub value-calls-follow-model : history_calls.ValuesAgree
-  -- It gives the same answers to the same receptions, one by one or in groups.
+  -- With this set too, the answers are the same, one by one or in groups.
   pub value-groups-change-nothing : history_calls.ValuesDivide
   -- It leaves the model's state.
   pub value-state-follows-model : history_calls.ValuesLeft
-  -- Its answers to one sensor do not depend on other sensors, as long as none is loose and time does not go back.
+  -- Nor do other sensors change its answers to a sensor, under those conditions.
   pub value-sensors-are-independent : history_calls.ValuesIsolated
   -- It leaves each element of the arrays as the library's calls do.
   pub value-elements-are-known : history_calls.ValuesElements
@@ -218,13 +218,13 @@ pub record Lines : Type 1 where
   pub log-closings-follow-model : history_archived_closed.LogClosed
   -- Further lines close what the model closes too, from any state on.
   pub later-closings-follow-model : history_archived_closed.LinesClosed
-  -- What lines close, and then what is open after them, are the kept receptions, in order, each once and with its copies.
+  -- What lines close, and then what is open after them, are the kept receptions, in order, each once and with its copies, at most 65,535.
   pub lines-close-once : history_archived_closed.LinesCloseOnce
   -- From any arrays on, without a restart, each element of a collector's arrays after calls of `lines` is what the lines make of it.
   pub calls-lay-elements : history_archived_runs.CallsLay
   -- The same holds after calls of `lines_as`.
   pub format-calls-lay-elements : history_archived_runs.CallsLayAs
-  -- In the same text, with the same limit, `skip_lines` skips what `lines` or `lines_as` takes, if these leave room for what one more line may give.
+  -- In the same text, with the same limit, `skip_lines` skips the lines that `lines` or `lines_as` takes, if these leave room for what one more line may give.
   pub skipped-as-taken : history_archived_places.SkipsAsTaken
   -- With a fixed setting and format, the state, the text, the limit and the lengths of the outputs decide how many lines a call of `lines` or `lines_as` takes.
   pub stops-are-decided : history_archived_places.StopsDecided
@@ -236,9 +236,9 @@ pub record Lines : Type 1 where
   pub outputs-stay : history_archived_outputs.OutputsStay
   -- The same holds for a shared buffer for closings.
   pub closings-stay : history_archived_outputs.ClosingsStay
-  -- A log kept in any archive is read back: the rows that were there, and then the model's, in order, and what the model closes.
+  -- If `keep` takes a log into any archive and does not refuse, reading gives the rows that were there, and then the model's, in order, and the model's closings.
   pub kept-log-reads-back : history_log.KeptReadBack
-  -- The state that is kept beside it is accepted, and is a state of the model of the disk, after all lines that were taken: a start can recover from it.
+  -- The state file that `keep` writes is accepted, and has the state of the model of the disk after all lines that were taken: a start can recover from it.
   pub kept-state-starts : history_log.KeptStateStarts
 
 -- ---- the rows of a history, and the telegrams that close in it
@@ -264,7 +264,7 @@ pub record Rows : Type 1 where
   pub contracts-give-recovery : {State : Type 0} (view : State → View) → history_rows_recovered.RecoveredGoesOn view
   -- In the model, each telegram that was opened closes once, in order, with its number of copies, or is still open.
   pub telegrams-close-once : history_rows_closings.ClosedOnce
-  -- The same holds for the states of the collector, with the number of copies counted from the answers.
+  -- The same holds for the states of the collector, with the number of copies counted from the answers, up to 65,535.
   pub views-close-once : history_rows_closings.ViewsClosedOnce
   -- It holds for any program whose calls meet the contracts.
   pub contracts-close-once : {State : Type 0} (view : State → View) → history_rows_closings.StatesClosedOnce view
@@ -280,7 +280,7 @@ pub record Journal : Type 0 where
   pub first-line-gives-no-row : journal_model.FirstLines
   -- After a crash, a start brings the archive to what the model says for the state that is on disk.
   pub start-recovers : journal_model.Recovers
-  -- When all lines of the log are taken, state and archive are those of a run without crashes.
+  -- When all lines of the log are taken, and the remaining leftovers are put aside, state and archive are those of a run without crashes.
   pub whole-log-is-undisturbed : journal_model.WholeLog
   -- From every disk that a run can leave, the log can be taken to its end.
   pub runs-can-finish : journal_model.Finishes
@@ -288,7 +288,7 @@ pub record Journal : Type 0 where
   pub whole-front-is-found : journal_model.FoundLongest
   -- A start changes no block with rows that it finds, except a torn one, which it mends. Rows after a gap are not found.
   pub sound-blocks-stay : journal_model.BlocksUntouched
-  -- After a start that is not refused, an archive of one file has the counted rows, and then leftovers.
+  -- If the state's copy of the last block is one that the tool writes, then after a start that is not refused an archive of one file has the counted rows, and then leftovers.
   pub leftovers-are-rows : journal_model.StartCounts
   -- A start changes no byte of such an archive.
   pub start-keeps-leftovers : journal_model.StartKeeps
@@ -324,13 +324,13 @@ pub record Journal : Type 0 where
   pub scans-go-on : journal_calls.RunAccepted
   -- Numbers of a scan that are accepted are those that some blocks give.
   pub scans-are-exact : journal_calls.RunGiven
-  -- In the file of `--out`, the rows of each format are there once, in the order of their lines. Its heading is before them if the file was empty.
+  -- That each row is in the file of `--out` once holds for the model's rows in each format, with the format's heading.
   pub formats-are-in-the-file-once : journal_model_out.OnceInFormat
   -- A first line that says a level writes nothing to that file.
   pub first-line-writes-nothing : journal_model_out.FirstLineSilent
-  -- A lawful state that is written is accepted, and reads back as it was.
+  -- A lawful state of the tool (its image is accepted, and its other parts are right) that is written is accepted, and reads back as it was.
   pub states-read-back : journal_state.StateRead
-  -- The state in an accepted file is lawful, and the file is byte for byte what is written for that state.
+  -- The state in an accepted file is lawful, and the file is byte for byte what is written for that state, in the version of the file.
   pub states-are-exact : journal_state.StateWritten
   -- A lawful state whose archive is one file, with which the collector began, is a state of the model: its copy of the last block is one that the tool writes.
   pub states-are-modelled : journal_state.StateModelled
@@ -366,9 +366,9 @@ pub record Archives : Type 0 where
   pub emptied-blocks-are-counted : archive_repack_model.Freed
   -- After a removal, an append uses the free space.
   pub freed-space-is-used : archive_repack_model.ThenAppend
-  -- Two removals, one after the other, are one removal of the sensors of both.
+  -- Two removals, one after the other, leave the archive that one removal of the sensors of both leaves.
   pub removals-join : archive_repack_model.BothLists
-  -- Calls that pack pieces, refused ones anywhere between, write the archive of the rows that remain and name the dropped blocks.
+  -- Calls of the packer, also with refused ones among them, write the archive of the rows that remain, and name the dropped blocks.
   pub pieces-are-packed : archive_repack_model.PiecesPacked
   -- What is lent to a packer between two pieces is all that the next piece needs.
   pub packer-is-held : archive_repack_model.PackingHeld
@@ -382,7 +382,7 @@ pub record Archives : Type 0 where
   pub cleared-end-is-cut : archive_cut.ZerosBehind
   -- Rows that are put into a block together give the block that they give one by one.
   pub together-is-one-by-one : archive_fill.OneByOne
-  -- Rows that are put into the last block together are added to the archive's rows.
+  -- Rows that are put together into the block where the next row belongs are added to the archive's rows.
   pub together-is-appended : archive_fill.InArchive
   -- A row that another language reads from an archive can be put into an archive as it is.
   pub rows-are-put-again : c_archive.RowGivenAgain
@@ -390,7 +390,7 @@ pub record Archives : Type 0 where
   pub four-numbers-are-enough : c_pieces.ScanBack
   -- The numbers that a verification in pieces leaves are accepted by its next call.
   pub given-numbers-are-accepted : c_pieces.NumbersAccepted
-  -- Each four numbers that are accepted are those that some pieces leave.
+  -- Any four numbers that are accepted are those that some pieces leave.
   pub accepted-numbers-are-given : c_pieces.NumbersGiven
 
 -- ---- reports

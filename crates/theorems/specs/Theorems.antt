@@ -3,20 +3,30 @@
 -- Mooringeye collects the radio telegrams of sensors. Each statement below is proved for all inputs; a test would try some of them. In `a : b.C`, a
 -- is our name for the statement, and C is its exact form, in the file that the line `use .. as b` names. `(x : T) →` means: for every x of the type
 -- T; ℕ is the type of whole numbers from 0. If the proof of a statement is missing, this crate fails the check. Details.antt has the further
--- statements. Also proved, and not listed: each function in crates/*/src returns for every input, and what it returns and writes is what its
--- contract says. Not proved but tested: how the programs read and write files.
+-- statements. Also proved, and not listed: each function in crates/*/src returns for every input that its contract allows, and what it returns and
+-- writes is what the contract says. Not proved but tested: how the programs read and write files.
 --
 --   telegram     what a sensor sends by radio: 8 to 21 bytes. It is received several times, because sensors and repeaters send it again.
 --   level        how often repeaters have sent a telegram again. The status byte of the telegram contains it.
---   reception    bytes that were received, and the time in milliseconds. If they are a telegram, it is kept as a new one, or it is a copy of an open
---                one, or it is loose: it is neither, but 64 are open, which is the most. A damaged or late reception is refused.
---   open         a telegram is open for 100 ms after it was kept.
+--   reception    bytes that were received, and the time in milliseconds. The answer to it is: kept (a new telegram), copy, loose, or refused.
+--   open         a kept telegram is open for 100 ms. At most 64 are open at once.
+--   copy         a reception of a telegram that is the same as an open one. At level 0 it is a copy only up to 40 ms after that one was kept.
+--   loose        a reception that is no copy, but can't be kept, because 64 telegrams are open.
+--   late         a reception that is earlier than the latest kept, copied or loose one. It is refused, and so is a damaged one.
+--   close        a telegram closes at the first kept, copied or loose reception at which it is not open any more. Its closing has its number of copies.
 --   refused      a call that can't do what was asked returns a number above 0, which says why. 0 means done.
+--   contract     the exact statement of what a function returns and writes.
 --   collector    the state that decides on receptions. A checkpoint writes it as 2,560 bytes. After a restart, a restore reads them.
---   archive      a file of blocks of 512 bytes. A block has up to 15 rows. A row is a kept or loose reception. An append adds a row.
+--   model        the definition that the code is compared with. It stores every reception, and works out each answer from all that came before.
+--   log          a text: its first line says a level; each later line has a time and the bytes of a reception. The program `collect` reads it. In the
+--                library, `lines` takes lines of it and gives text and rows; `lines_as` does so in a format, and gives closings if asked.
+--   archive      a file of blocks of 512 bytes. A block has up to 15 rows. A row is a kept or loose reception. An append adds a row. Salvage keeps the
+--                rows of sound blocks only. A removal takes out the rows of some sensors. A packer does both, for an archive that comes in pieces.
 --   journal      the plant's tool keeps a state file and an archive. A batch of lines is written to the archive first, then to the state. A crash
---                between the two leaves rows that the state does not count: leftovers. Rows that are put aside go to an archive of their own.
---   slot plan    the times at which a telegram is sent, up to three. It is lawful if it obeys the radio protocol's timing rules.
+--                between the two leaves rows that the state does not count: leftovers. Rows that are put aside go to an archive of their own. With
+--                the option `--out` the tool also writes the rows to a text file.
+--   slot plan    the times at which a telegram is sent, up to three. It is lawful if it obeys the radio protocol's timing rules. A draw is the number
+--                by which a caller picks a plan.
 --   papers       the customer's documents 01 (scope) and 02 (changes), and the radio documents 000 to 004.
 use Prim.Native.Nat.{ℕ}
 use mathlib.Core.List.{List}
@@ -55,13 +65,13 @@ use Rattle.theorems.specs.Details.{Details}
 pub record Telegrams : Type 0 where
   -- If the bytes of a telegram are read, and a telegram is built from its fields, the bytes are the same.
   pub bytes-come-back : radio_telegram.BuildRead
-  -- If a telegram is built from fields, and its bytes are read, the fields are the same.
+  -- If a telegram is built from fields, and its bytes are read, the fields are the same. What the bytes do not carry is read as zero.
   pub fields-come-back : radio_telegram.ReadBuilt
-  -- In ERP2 too, the bytes are the same.
+  -- In ERP2 too, reading and then building gives the same bytes.
   pub erp2-bytes-come-back : radio_erp2_model.BuildRead
-  -- In ERP2 too, the fields are the same, also those that say which optional fields are present.
+  -- In ERP2 too, building and then reading gives the same fields, with the same optional fields present, and zeros for the rest.
   pub erp2-fields-come-back : radio_erp2_model.ReadBuilt
-  -- A repeater sends the telegram that it received, with the level one higher and a new check byte. Nothing else changes.
+  -- If a repeater sends something, it is the telegram that it received, with the level one higher and a new check byte. Nothing else changes.
   pub repeater-raises-level : radio_telegram.SentRaised
   -- Two telegrams count as the same exactly if sender, type, receiver, data and the upper bits of the status byte are equal.
   pub same-by-fields : radio_sameness.SameByFields
@@ -73,31 +83,31 @@ pub record SlotPlans : Type 0 where
   pub lawful-plans-are-listed : plan_slots.PlansListed
   -- A request for a plan gets a lawful plan. It is refused only if an argument is out of range or no plan is lawful.
   pub requests-get-lawful-plans : plan_rules.PlanByChosen
-  -- The plans of several repeaters are accepted exactly if each plan is lawful and no two transmissions overlap.
+  -- The plans of several repeaters are accepted exactly if there are at most 32, with arguments in range, each is lawful, and no two transmissions overlap.
   pub sites-accepted-exactly : (count : ℕ) (repeaters : List Assignment) → plan_site.AcceptsExactly count repeaters
 
 -- ---- the collector
 
 pub record Collector : Type 0 where
-  -- All answers and outputs of any calls, with restarts from their own checkpoints anywhere, equal those of a model that stores every reception, and of a run without restarts.
+  -- Any calls of a fresh collector, with restarts only from its own checkpoints, give the answers and outputs of the model, and those of a run without restarts.
   pub histories-follow-model : collector_model_history.WholeHistory
   -- The same holds for the calls of the library. The proof uses only their contracts.
   pub code-follows-model : history_calls.ArraysAgree
-  -- The same receptions get the same answers, whether they are handed over one by one or in groups of any size.
+  -- The same receptions get the same answers, whether they are handed over one by one or in groups of up to 256.
   pub groups-change-nothing : history_calls.ArraysDivide
   -- Of the open telegrams that are the same as a reception, only the latest decides whether the reception is a copy.
   pub latest-decides : collector_model_latest.LatestDecides
   -- The number of copies of a telegram is the number of receptions that were answered as copies of it.
   pub copies-are-counted : collector_model_copies.NumbersAreAnswers
-  -- A restore accepts exactly the bytes that a checkpoint writes, now or in the format before, and gives the state that was written.
+  -- A restore accepts exactly the bytes that a checkpoint can write, now or in the earlier format, and gives the state that was written.
   pub restore-is-exact : collector_model_exact.Exact
-  -- In fewer than 2^64 receptions, none loose and none earlier than the one before, a sensor's answers do not depend on the other sensors.
+  -- If there are fewer than 2^64 receptions, none loose and none earlier than the one before, a sensor's answers do not depend on the other sensors.
   pub sensors-are-independent : history_calls.ArraysIsolated
   -- However the input is split into reads, the steps of `collect` print what the model says for all that was read. The proof uses only the contract of the step.
   pub output-follows-model : text_print.RunsPrint
   -- The rows that a log gives for an archive are the receptions that the model keeps, and the loose ones, in order.
   pub rows-follow-model : history_archived.LogArchived
-  -- However a log is cut into calls of `lines`, with restarts between them, text and rows are the model's, and the number of lines is right.
+  -- However a log is cut into calls of `lines`, with restarts between them, text and rows are the model's, and the calls count the lines right.
   pub calls-follow-model : history_archived_runs.CallsFollow
   -- The same holds for calls of `lines_as` in one format; the text is the model's in that format. Both proofs use only the contracts of the calls.
   pub format-calls-follow-model : history_archived_runs.CallsFollowAs
@@ -105,7 +115,7 @@ pub record Collector : Type 0 where
   pub closings-follow-model : history_archived_closed.CallsClose
   -- If at each restart `skip_lines` skips as many lines as were taken, the calls take the front of the log: no line twice, and none is left out.
   pub restarts-leave-out-no-line : history_archived_places.RestartsCover
-  -- A whole log kept in a fresh archive leaves the archive of the receptions that the model keeps, and of the loose ones, what the model closes, and the tool's state of both.
+  -- If the function `keep` takes a whole log into an empty archive, and there is room, it leaves the model's rows, the model's closings, and the tool's state file for them.
   pub log-is-archived : history_log.FreshKept
 
 -- ---- archives, and reports of the totals in archives
@@ -113,7 +123,7 @@ pub record Collector : Type 0 where
 pub record Archives : Type 0 where
   -- Each field of an archive block is at the bytes that the papers say.
   pub blocks-are-laid-out : archive_model.Layout
-  -- After any appends, reading an archive gives exactly the rows whose append was not refused, in order.
+  -- After any appends to an empty archive, reading it gives exactly the rows whose append was not refused, in order.
   pub rows-come-back : archive_model.WholeRun
   -- An archive that is accepted is byte for byte what is written for its rows.
   pub archives-are-exact : archive_model.ExactArchive
@@ -133,21 +143,21 @@ pub record Archives : Type 0 where
 -- ---- the journal: the state file and the archive that the plant's tool keeps
 
 pub record Journal : Type 0 where
-  -- After any batches and any crashes, also during a recovery, the archive has the model's rows and the state is the model's.
+  -- After any batches and any crashes, also during a recovery, the state is the model's, and the archive has the model's rows, and after them only leftovers.
   pub crashes-lose-nothing : journal_model.CrashSafe
-  -- With a live feed, which has no log, the same holds for the lines that were taken and the rows that a crash left.
+  -- With a live feed, which has no log, the same holds for some lines, as many as the state counts. Which lines these are is not stated.
   pub live-crashes-lose-nothing : journal_model.LiveSafe
   -- At a start, no row that is found is destroyed, whoever wrote it.
   pub starts-destroy-nothing : journal_model.NothingDestroyed
-  -- What a crash can leave is never refused.
+  -- A start never refuses what a crash can leave.
   pub crashes-are-recovered : journal_model.NoFalseAlarm
   -- The calls that the tool makes at a start, as one function on an archive of one file: after a crash it is not refused, and leaves the model's rows, then leftovers.
   pub code-starts-after-crashes : journal_recovery.StartRecovers
-  -- The calls for a batch, as one function: for the model's rows, all in one block, with room in the file and nothing to put aside, it leaves the model's archive and state.
+  -- The calls for a batch, as one function: if it gets the model's rows and collector, the rows are in one block of the file, and nothing is put aside, it leaves the model's archive and state.
   pub code-commits-batches : journal_batch.BatchCommits
   -- A row that the state on disk counts stays in the archive, at its position. That the tool prints it only then is tested, not proved.
   pub printed-is-kept : journal_model.PrintedIsKept
-  -- After any batches and crashes, the file of `--out` has what it had, the heading if it was empty, and each row of the lines taken, once and in order.
+  -- After any batches and crashes, the file of `--out` has what it had, then the heading if it was empty, then each row of the lines taken, once and in order.
   pub rows-are-in-the-file-once : journal_model_out.OnceInFile
 
 -- ---- all of it
