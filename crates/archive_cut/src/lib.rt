@@ -63,8 +63,8 @@ pub fn cut_block(block: &mut [u8], rows: usize) -> Outcome
     Outcome::Done
 }
 
-// Cuts an archive to its first `rows` rows. Refused: 16 for a wrong length, 12 with the position of the first block that does not match, 10 if it has fewer rows. Then the
-// buffer is unchanged.
+// Cuts an archive to its first `rows` rows. Refused: 16 for a wrong length, 12 with the position of the first block that does not match, 10 if it has fewer
+// rows. Then the buffer is unchanged.
 pub fn cut(buffer: &mut [u8], rows: usize) -> ArchiveOutcome
     ensures { λ r. ⌜ appendResult r (now (buffer .exit)) ≡ cutOf rows (now (buffer .entry)) ⌝ }
 {

@@ -17,7 +17,8 @@
 --   refused      a call that can't do what was asked returns a number above 0, which says why. 0 means done.
 --   contract     the exact statement of what a function returns and writes.
 --   collector    the state that decides on receptions. A checkpoint writes it as 2,560 bytes. After a restart, a restore reads them.
---   model        the definition that the code is compared with. It stores every reception, and works out each answer from all that came before.
+--   model        or reference model: the definition that the code is compared with. It stores every reception, and works out each answer from all that
+--                came before. The model of the disk says what state file and archive are after batches, crashes and starts.
 --   log          a text: its first line says a level; each later line has a time and the bytes of a reception. The program `collect` reads it. In the
 --                library, `lines` takes lines of it and gives text and rows; `lines_as` does so in a format, and gives closings if asked.
 --   archive      a file of blocks of 512 bytes. A block has up to 15 rows. A row is a kept or loose reception. An append adds a row. Salvage keeps the
