@@ -204,7 +204,7 @@ pub record Lines : Type 1 where
   pub formats-follow-model : text_collect_formats.FormatsPrint
   -- A run in any format that goes on from any state gives the same, however the input is cut.
   pub format-cuts-change-nothing : text_collect_formats.FormatsInPieces
-  -- In the format text, such a run gives what `collect` prints.
+  -- In the format text, the model's output for an input is what `collect` prints.
   pub text-is-printed : text_collect_formats.TextAsPrinted
   -- The rows for an archive and the count of lines are the same however the input is cut.
   pub row-cuts-change-nothing : text_collect.RowsInPieces
@@ -244,7 +244,7 @@ pub record Lines : Type 1 where
 -- ---- the rows of a history, and the telegrams that close in it
 
 pub record Rows : Type 1 where
-  -- If only the kept and loose receptions of a history are handed over, they get the same answers and leave the same telegrams open.
+  -- If only the kept and loose receptions of a history are handed over, they get the same answers, and at each time the same telegrams are open.
   pub rows-decide : history_rows_alone.RowsAlone
   -- The same holds from the middle of a history on.
   pub rows-decide-from-middle : history_rows_alone.RowsAloneSince
@@ -258,7 +258,7 @@ pub record Rows : Type 1 where
   pub first-rows-are-of-first : history_rows_again.FirstRows
   -- A collector that is restored, and is handed the rows that came after its checkpoint, answers each as before.
   pub rows-are-answered-again : history_rows_again.GivenAgain
-  -- Then it answers all that comes later as the first collector would have, if nothing comes earlier than that one's latest time.
+  -- Then it answers all that comes later as the first collector would have, if nothing comes earlier than that one's latest time, in fewer than 2^64 receptions.
   pub later-answers-are-same : history_rows_again.RowsGoOn
   -- The same holds for any program whose calls meet the contracts.
   pub contracts-give-recovery : {State : Type 0} (view : State → View) → history_rows_recovered.RecoveredGoesOn view
@@ -276,7 +276,7 @@ pub record Rows : Type 1 where
 pub record Journal : Type 0 where
   -- A run can begin with an empty archive.
   pub begins-with-nothing : journal_model.FromNothing
-  -- A first line that says a level gives no row.
+  -- A first line `level N` gives no row.
   pub first-line-gives-no-row : journal_model.FirstLines
   -- After a crash, a start brings the archive to what the model says for the state that is on disk.
   pub start-recovers : journal_model.Recovers
@@ -312,7 +312,7 @@ pub record Journal : Type 0 where
   pub rows-are-given-again : journal_model.LinesRowsAlone
   -- So leftovers of lines that were on their way at a crash are all taken in.
   pub leftovers-are-taken-in : journal_model.AllTakenIn
-  -- The judgement on the last counted block refuses what the model refuses, and else gives the block that the model continues with.
+  -- The judgement on the last counted block refuses what the model of the disk refuses, and otherwise gives the block that this model continues with.
   pub blocks-are-judged : journal_calls.Judged
   -- A scan counts the rows and blocks that the model finds from a block on.
   pub scans-count-the-run : journal_calls.RunCounts
@@ -326,7 +326,7 @@ pub record Journal : Type 0 where
   pub scans-are-exact : journal_calls.RunGiven
   -- That each row is in the file of `--out` once holds for the model's rows in each format, with the format's heading.
   pub formats-are-in-the-file-once : journal_model_out.OnceInFormat
-  -- A first line that says a level writes nothing to that file.
+  -- A first line `level N` writes nothing to that file.
   pub first-line-writes-nothing : journal_model_out.FirstLineSilent
   -- A lawful state of the tool (its image is accepted, and its other parts are right) that is written is accepted, and reads back as it was.
   pub states-read-back : journal_state.StateRead
@@ -374,7 +374,7 @@ pub record Archives : Type 0 where
   pub packer-is-held : archive_repack_model.PackingHeld
   -- A second cut at the same row changes nothing.
   pub second-cut-is-same : archive_cut.CutAgain
-  -- If the rows that were cut off are appended again, the bytes are the old ones.
+  -- If the rows that were cut off are appended again in order, the bytes are the old ones.
   pub cut-is-undone : archive_cut.Undone
   -- A cut changes one block, keeps those before it and clears those after it.
   pub cut-changes-one-block : archive_cut.AtOneBlock

@@ -19,10 +19,11 @@
 --   collector    the state that decides on receptions. A checkpoint writes it as 2,560 bytes. After a restart, a restore reads them.
 --   model        or reference model: the definition that the code is compared with. It stores every reception, and works out each answer from all that
 --                came before. The model of the disk says what state file and archive are after batches, crashes and starts.
---   log          a text: its first line says a level; each later line has a time and the bytes of a reception. The program `collect` reads it. In the
---                library, `lines` takes lines of it and gives text and rows; `lines_as` does so in a format, and gives closings if asked.
+--   log          a text: its first line is `level N`, the setting of a repeater; each later line has a time and the bytes of a reception. The program
+--                `collect` reads it. In the library, `lines` takes lines of it and gives text and rows; `lines_as` does so in a format, and gives
+--                closings if asked.
 --   archive      a file of blocks of 512 bytes. A block has up to 15 rows. A row is a kept or loose reception. An append adds a row. Salvage keeps the
---                rows of sound blocks only. A removal takes out the rows of some sensors. A packer does both, for an archive that comes in pieces.
+--                rows of undamaged blocks. A removal takes out the rows of some sensors. A packer does both, for an archive that comes in pieces.
 --   journal      the plant's tool keeps a state file and an archive. A batch of lines is written to the archive first, then to the state. A crash
 --                between the two leaves rows that the state does not count: leftovers. Rows that are put aside go to an archive of their own. With
 --                the option `--out` the tool also writes the rows to a text file.
