@@ -1,5 +1,5 @@
 -- One block cut after its first rows.
---     rows-kept                 with another count and zeros behind its first rows a sound block is what is written of them
+--     rows-kept                 with another count and with zeros after its first rows, a sound block is what is written for them
 --     first-none, first-some    the two cases of `firstRows`
 --     block-size, block-unsound, block-few, block-has, block-done     the cases of `cutBlockOf`, each from the facts that its tests give
 use Prim.Native.Nat.{ℕ, _+_, _-_, _*_, _≤_, _<_}
@@ -52,7 +52,7 @@ module _ (b : List ℕ) (sound : isSound b ≡ true) (m : ℕ) (few : m ≤ rowC
       ∙ take-at (map read (upFrom 0 m)) (map read (upFrom (0 + m) n)) m
       (length-map (upFrom 0 m) read ∙ length-upFrom 0 m)
 
-  -- their cells stand behind the header
+  -- their cells are after the header
   cells-are : flatten (map rowCell (take m rows)) ≡ part headerLength (cellLength * m) b
   cells-are =
       ap (λ (l : List Row). flatten (map rowCell l)) rows-are

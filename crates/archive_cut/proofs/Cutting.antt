@@ -1,4 +1,4 @@
--- An archive cut after its first rows: the buffer of those rows is the old one before the block where they end, that block cut, and zeros.
+-- An archive cut after its first rows: the buffer of those rows is the old one before block `rows / 15`, that block cut, and zeros.
 --     split, zeros-from         a list around one part; blocks that are all zero
 --     first-fits                the first of rows that fit
 --     after-is                  the buffer, part by part
@@ -102,7 +102,7 @@ module _ (rows : List Row) (n : ℕ) (fit : Fits rows)
           ∙ ap (rowsBlock j) (part-take (cellsPerBlock * j) cellsPerBlock m rows (omega arith))
           ∙ sym (used-block rows n fit fits j (omega arith) (omega arith))
 
-  -- the block where it falls
+  -- the block that is cut
   abbrev block : List ℕ
   block = blockAt k before
 
@@ -139,7 +139,7 @@ module _ (rows : List Row) (n : ℕ) (fit : Fits rows)
       ∙ sym (ap₂ (λ (c : ℕ) (l : List Row). rowsBlock c (take (m % cellsPerBlock) l)) number says)
       ∙ first-some (m % cellsPerBlock) block u)
 
-  -- those behind it
+  -- the blocks after it
   back : drop (blockLength * k + blockLength) after ≡ replicate (blockLength * n - (blockLength * k + blockLength)) 0
   back =
       let c = n - suc k in
@@ -162,7 +162,7 @@ module _ (rows : List Row) (n : ℕ) (fit : Fits rows)
       ∙ ap (λ (z : List ℕ). take (blockLength * k) after ++ blockAt k after ++ z) (sym back)
       ∙ split (blockLength * k) blockLength after
 
-  -- that block is sound, and has so many rows
+  -- that block is sound, and has at least the rows that stay in it
   pub block-enough : (isSound block ≡ true) × (m % cellsPerBlock ≤ rowCount block)
   block-enough =
       let group = group-length rows k in

@@ -19,9 +19,9 @@ use Rattle.history_archived.specs.Archived.{archivedOf}
 use Rattle.history_archived.specs.Closed.{closedOf}
 use Rattle.history_log.specs.Keep.{takenOf, noteOf, isNoName, keepOf}
 
--- From nothing: m blocks of zeros end as the archive of the reference model's KEPT and LOOSE receptions, with zeros
--- behind it; `heard` begins with the telegrams that the model closes, 32 bytes each; and the state is that of the
--- model's collector and rows.
+-- From nothing, if the name is right and there is room for rows and closings: m blocks of zeros end as the archive of
+-- the reference model's KEPT and LOOSE receptions, with zeros after it; `heard` begins with the telegrams that the model
+-- closes, 32 bytes each; and the state is that of the model's collector and rows.
 abbrev pub FreshKept : Type 0
 FreshKept =
     (log heard name bytes : List ℕ) (m : ℕ) → m ≤ maxBlocks → length (archivedOf log) ≤ cellsPerBlock * m
@@ -38,7 +38,7 @@ FreshKept =
       state = stateBytes (noteOf log (replicate (blockLength * m) 0) name) 2;
     }
 
--- Read back: where the number is 0, what is left is an archive of the rows that were there and the reference model's, in
+-- Read back: if the number is 0, what is left is an archive of the rows that were there and the reference model's, in
 -- order; and the closings that are counted are the model's, in order.
 pub record ReadsBack (log archive heard name bytes : List ℕ) : Type 0 where
   pub right : verdict (keepOf log archive heard name bytes .archive) .number ≡ 0
@@ -52,7 +52,7 @@ KeptReadBack =
     (log archive heard name bytes : List ℕ) → keepOf log archive heard name bytes .number ≡ 0
     → ReadsBack log archive heard name bytes
 
--- State kept: where the number is 0, the state is accepted, and is the file of a state of the model of the disk: of the
+-- State kept: if the number is 0, the state is accepted, and is the file of a state of the model of the disk: of the
 -- rows that were there, and of all lines that were taken. So `StartRecovers` speaks of it.
 pub record StateKept (log archive heard name bytes : List ℕ) : Type 0 where
   pub accepted : acceptsState (keepOf log archive heard name bytes .state) ≡ true

@@ -48,8 +48,9 @@ stateAfterLog log = modelView (logOf (pastFor (linesOf log)))
 unfoldable pub takenOf : List ℕ → List ℕ
 takenOf log = cond (leb (firstNumber log) 2) log []
 
--- lines taken; rows that the archive had before; length of its name; position in the log, and how many bytes before it
--- are kept; no file for rows
+-- the numbers of the state file: lines taken; rows counted when the file began, 0; rows that the archive had before; its
+-- number, 0; length of its name; 1 for a known position in the log; this position; device and inode, 0 for standard
+-- input; how many bytes before it are kept; no file for rows: 0 four times
 abbrev pub stateNumbers : (lines had name offset tail : ℕ) → List ℕ
 stateNumbers lines had name offset tail =
     lines ∷ 0 ∷ had ∷ 0 ∷ name ∷ 1 ∷ offset ∷ 0 ∷ 0 ∷ tail ∷ 0 ∷ 0 ∷ 0 ∷ 0 ∷ []

@@ -63,7 +63,7 @@ pub record Grown (archive : List ℕ) (more : List Row) (archive' : List ℕ) : 
 
 -- ---- the state file
 
--- the block with the last of so many rows, or zeros
+-- the block with the last row, or zeros
 abbrev pub lastIn : List ℕ → ℕ → List ℕ
 lastIn archive rows =
     cond (eqb rows 0) (replicate {A = ℕ} blockLength 0) (blockAt ((rows - 1) / cellsPerBlock) archive)
@@ -82,7 +82,7 @@ pub record Noted (log archive : List ℕ) (had rows : ℕ) (name image old new :
 
 -- ---- where a run writes
 
--- an archive of so many rows, and a buffer with so many closings at its front
+-- an archive and the number of its rows, and a buffer and the number of closings at its front
 pub record Outputs : Type 0 where
   pub archive : List ℕ
   pub rows : ℕ
@@ -98,7 +98,7 @@ pub record OutputsFit (o : Outputs) : Type 0 where
   pub rows : o .rows ≤ capacityOf (length (o .archive))
   pub closings : cellLength * o .closings ≤ length (o .heard)
 
--- so many rows more, and so many bytes of closings more, fit
+-- these numbers of further rows and of further bytes of closings fit
 abbrev pub haveRoom : Outputs → ℕ → ℕ → Bool
 haveRoom o rows cells =
     leb (o .rows + rows) (capacityOf (length (o .archive)))

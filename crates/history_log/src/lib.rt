@@ -197,7 +197,7 @@ fn block_of(text: &[u8]) -> [u8; BLOCK_LENGTH]
     out
 }
 
-// The block with the last row of an archive with so many rows; zeros if there is no row.
+// The block with the last row of an archive; `rows` is their number. Zeros if there is no row.
 fn last_block(archive: &[u8], rows: usize) -> [u8; BLOCK_LENGTH]
     requires { ⌜ rows ≤ capacityOf (length (now archive)) ⌝ }
     ensures { λ r. ⌜ r ≡ lastIn (now (archive .entry)) rows ⌝ }
@@ -210,7 +210,7 @@ fn last_block(archive: &[u8], rows: usize) -> [u8; BLOCK_LENGTH]
     block_of(&archive[at..end])
 }
 
-// The number of characters of a log that are taken: all, or none if its first line says no level.
+// The number of characters of a log that are taken: all, or none if its first line says no level or has not ended.
 fn taken(log: &[u8]) -> usize
     ensures { λ r. ⌜ r ≡ length (takenOf (now (log .entry))) ⌝ }
 {

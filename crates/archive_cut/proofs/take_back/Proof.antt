@@ -1,4 +1,4 @@
--- `archive_cut::take_back` meets its contract: the block where the rows end is cut, what is behind it cleared, what is before it stays.
+-- `archive_cut::take_back` meets its contract: block `rows / 15` is cut, the blocks after it are cleared, the blocks before it stay.
 use mathlib.Core.Path.{_≡_, refl, _∙_}
 use Prim.Native.Nat.{ℕ, _+_, _*_, _/_, _%_, _≤_}
 use native.Mathlib.Omega.{arith}
@@ -19,7 +19,7 @@ start c = c .before .before .before
 abbrev shortened : tie.After-clear-arg → tie.After-shorten
 shortened c = c .before .before .before
 
--- where the block stands
+-- the position of the block
 abbrev at : tie.Start → ℕ
 at s = blockLength * (s .args .rows / cellsPerBlock)
 
