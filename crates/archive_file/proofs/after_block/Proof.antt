@@ -8,7 +8,7 @@ use Rattle.archive_file.specs.declared.Stage.{Stage}
 use Rattle.archive_file.proofs.after_block.Statement.{statement}
 use Rattle.archive_file.proofs.after_block.Tie as tie
 
--- states on the way, each three steps back
+-- states on the way
 abbrev start : tie.After-enum-told → tie.Start
 start c = c .before .before .before
 

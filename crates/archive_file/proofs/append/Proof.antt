@@ -8,7 +8,7 @@ use Rattle.archive_file.proofs.Calls.{append-rows, append-damaged, appe
 use Rattle.archive_file.proofs.append.Statement.{statement}
 use Rattle.archive_file.proofs.append.Tie as tie
 
--- states on the way, each three steps back
+-- states on the way
 abbrev start : tie.After-open-arg → tie.Start
 start c = c .before .before .before
 

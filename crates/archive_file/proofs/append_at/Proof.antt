@@ -12,7 +12,7 @@ use Rattle.archive_file.proofs.Calls.{at-size, at-out, at-put}
 use Rattle.archive_file.proofs.append_at.Statement.{statement}
 use Rattle.archive_file.proofs.append_at.Tie as tie
 
--- states on the way, each three steps back
+-- states on the way
 abbrev start : tie.After-is-whole → tie.Start
 start c = c .before .before .before
 

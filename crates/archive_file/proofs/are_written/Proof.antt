@@ -26,7 +26,7 @@ Inv-loop block used i₀ i = Testing block used i
 abbrev μ-loop : tie.MeasureT-loop
 μ-loop block used i₀ i = used - i
 
--- states on the way, each three steps back
+-- states on the way
 abbrev start : tie.In-loop Inv-loop μ-loop → tie.Start Inv-loop μ-loop
 start c = c .before .before .before
 

@@ -11,7 +11,7 @@ use Rattle.archive_file.proofs.Cells.{bytes-shown, long-row}
 use Rattle.archive_file.proofs.is_row.Statement.{statement}
 use Rattle.archive_file.proofs.is_row.Tie as tie
 
--- states on the way, each three steps back
+-- states on the way
 abbrev start : tie.Else1 → tie.Start
 start c = c .before .before .before
 

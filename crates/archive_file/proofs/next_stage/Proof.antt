@@ -8,7 +8,7 @@ use Rattle.archive_file.proofs.Scans.{stage-wrong, stage-number, stage-
 use Rattle.archive_file.proofs.next_stage.Statement.{statement}
 use Rattle.archive_file.proofs.next_stage.Tie as tie
 
--- states on the way, each three steps back
+-- states on the way
 abbrev start : tie.After-number-of → tie.Start
 start c = c .before .before .before
 

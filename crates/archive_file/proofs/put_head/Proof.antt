@@ -8,7 +8,7 @@ use Rattle.base_buffers.proofs.Segments.{Writing, packed, begin, begun-length, 
 use Rattle.archive_file.proofs.put_head.Statement.{statement}
 use Rattle.archive_file.proofs.put_head.Tie as tie
 
--- states on the way, each three steps back
+-- states on the way
 abbrev put-number : tie.After-clear-arg → tie.After-put-number
 put-number c = c .before .before .before
 

@@ -21,7 +21,7 @@ use Rattle.archive_file.proofs.Cells.{used-is}
 use Rattle.archive_file.proofs.read_row.Statement.{statement}
 use Rattle.archive_file.proofs.read_row.Tie as tie
 
--- states on the way, each three steps back
+-- states on the way
 abbrev entry : tie.Else1 → tie.Start
 entry c = c .before .before .before
 

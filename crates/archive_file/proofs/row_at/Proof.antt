@@ -18,7 +18,7 @@ use Rattle.archive_file.proofs.Calls.{row-size, row-out, row-in}
 use Rattle.archive_file.proofs.row_at.Statement.{statement}
 use Rattle.archive_file.proofs.row_at.Tie as tie
 
--- states on the way, each three steps back
+-- states on the way
 abbrev start : tie.Else1 → tie.Start
 start c = c .before .before .before
 

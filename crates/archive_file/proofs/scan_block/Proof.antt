@@ -8,7 +8,7 @@ use Rattle.archive_file.proofs.Scans.{sound-le, scanned-blank, scanned}
 use Rattle.archive_file.proofs.scan_block.Statement.{statement}
 use Rattle.archive_file.proofs.scan_block.Tie as tie
 
--- states on the way, each three steps back
+-- states on the way
 abbrev start : tie.Else1 → tie.Start
 start c = c .before .before .before
 

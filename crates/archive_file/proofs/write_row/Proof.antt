@@ -18,7 +18,7 @@ use Rattle.archive_file.specs.Archive.{rowOf}
 use Rattle.archive_file.proofs.write_row.Statement.{statement}
 use Rattle.archive_file.proofs.write_row.Tie as tie
 
--- states on the way, each three steps back
+-- states on the way
 abbrev entry : tie.After-put-head-arg → tie.Start
 entry c = c .before .before .before
 

@@ -28,7 +28,7 @@ Inv-loop times rows i₀ i-end i = Checking times rows i
 abbrev μ-loop : tie.MeasureT-loop
 μ-loop times rows i₀ i-end i = length times - i
 
--- states on the way, each three steps back
+-- states on the way
 abbrev entry : tie.At-loop Inv-loop μ-loop → tie.Start Inv-loop μ-loop
 entry c = c .before .before .before
 

@@ -40,7 +40,7 @@ Inv-loop out₀ times rows i₀ i-end out i = Putting out₀ times rows out i
 abbrev μ-loop : tie.MeasureT-loop
 μ-loop out₀ times rows i₀ i-end out i = length times - i
 
--- states on the way, each three steps back
+-- states on the way
 abbrev entry : tie.After-shared-slice-known2 Inv-loop μ-loop → tie.Start Inv-loop μ-loop
 entry c = c .before .before .before
 

@@ -20,7 +20,7 @@ use Rattle.archive_fill.proofs.Cases.{given-facts, check-valid, put-siz
 use Rattle.archive_fill.proofs.put_rows.Statement.{statement}
 use Rattle.archive_fill.proofs.put_rows.Tie as tie
 
--- states on the way, each three steps back
+-- states on the way
 abbrev entry : tie.After-shared-slice-known2 → tie.Start
 entry c = c .before .before .before
 

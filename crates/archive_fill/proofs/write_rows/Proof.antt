@@ -20,7 +20,7 @@ use Rattle.archive_fill.proofs.Together.{together, put-together}
 use Rattle.archive_fill.proofs.write_rows.Statement.{statement}
 use Rattle.archive_fill.proofs.write_rows.Tie as tie
 
--- states on the way, each three steps back
+-- states on the way
 abbrev entry : tie.After-shared-slice-known2 → tie.Start
 entry c = c .before .before .before
 

@@ -27,7 +27,7 @@ Inv-loop buffer gone₀ k₀ k-end gone k = Counting buffer k-end gone k
 abbrev μ-loop : tie.MeasureT-loop
 μ-loop buffer gone₀ k₀ k-end gone k = k-end - k
 
--- states on the way, each three steps back
+-- states on the way
 abbrev start : tie.In-loop Inv-loop μ-loop → tie.Start Inv-loop μ-loop
 start c = c .before .before .before
 

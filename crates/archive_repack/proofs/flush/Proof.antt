@@ -7,7 +7,7 @@ use Rattle.archive_repack.proofs.Flushes.{flush-few, flush-full}
 use Rattle.archive_repack.proofs.flush.Statement.{statement}
 use Rattle.archive_repack.proofs.flush.Tie as tie
 
--- states on the way, each three steps back
+-- states on the way
 abbrev start : tie.Else1 → tie.Start
 start c = c .before .before .before
 

@@ -11,7 +11,7 @@ use Rattle.archive_repack.proofs.Walks.{kept-not-dropped, blank-not-dro
 use Rattle.archive_repack.proofs.list_block.Statement.{statement}
 use Rattle.archive_repack.proofs.list_block.Tie as tie
 
--- states on the way, each three steps back
+-- states on the way
 abbrev start : tie.Else1 → tie.Start
 start c = c .before .before .before
 

@@ -13,7 +13,7 @@ use Rattle.archive_repack_model.specs.Packer.{fullLength}
 use Rattle.archive_repack.proofs.move_front.Statement.{statement}
 use Rattle.archive_repack.proofs.move_front.Tie as tie
 
--- states on the way, each three steps back
+-- states on the way
 abbrev start : tie.After-copy-arg → tie.Start
 start c = c .before .before .before
 

@@ -31,7 +31,7 @@ Inv-loop pending₀ used source rows identities at₀ i₀ pending at i =
 abbrev μ-loop : tie.MeasureT-loop
 μ-loop pending₀ used source rows identities at₀ i₀ pending at i = rows - i
 
--- states on the way, each three steps back
+-- states on the way
 abbrev start : tie.After-shared-slice-known2 Inv-loop μ-loop → tie.Start Inv-loop μ-loop
 start c = c .before .before .before
 

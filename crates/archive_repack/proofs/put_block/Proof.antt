@@ -16,7 +16,7 @@ use Rattle.archive_repack_model.specs.Packer.{cellsBlock}
 use Rattle.archive_repack.proofs.put_block.Statement.{statement}
 use Rattle.archive_repack.proofs.put_block.Tie as tie
 
--- states on the way, each three steps back
+-- states on the way
 abbrev start : tie.After-put-number-arg → tie.Start
 start c = c .before .before .before
 

@@ -11,7 +11,7 @@ use Rattle.archive_repack.proofs.Removal.{remove-not}
 use Rattle.archive_repack.proofs.remove.Statement.{statement}
 use Rattle.archive_repack.proofs.remove.Tie as tie
 
--- states on the way, each three steps back
+-- states on the way
 abbrev start : tie.After-open-arg → tie.Start
 start c = c .before .before .before
 

@@ -15,7 +15,7 @@ use Rattle.base_buffers.proofs.Segments.{part-clamped}
 use Rattle.block_layout.proofs.cell_last.Statement.{statement}
 use Rattle.block_layout.proofs.cell_last.Tie as tie
 
--- states on the way, each three steps back
+-- states on the way
 abbrev entry : tie.After-least2 → tie.Start
 entry c = c .before .before .before
 

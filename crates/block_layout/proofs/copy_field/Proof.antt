@@ -11,7 +11,7 @@ use Rattle.base_buffers.proofs.Segments.{part-clamped}
 use Rattle.block_layout.proofs.copy_field.Statement.{statement}
 use Rattle.block_layout.proofs.copy_field.Tie as tie
 
--- states on the way, each three steps back
+-- states on the way
 abbrev entry : tie.After-least → tie.Start
 entry c = c .before .before .before
 

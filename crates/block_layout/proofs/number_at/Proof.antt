@@ -11,7 +11,7 @@ use Rattle.block_layout.specs.BigEndian.{unbe, unbeFrom}
 use Rattle.block_layout.proofs.number_at.Statement.{statement}
 use Rattle.block_layout.proofs.number_at.Tie as tie
 
--- states on the way, each three steps back
+-- states on the way
 abbrev start : tie.After-read-number-arg → tie.Start
 start c = c .before .before .before
 

@@ -15,7 +15,7 @@ use Rattle.block_layout.proofs.Cell.{put-fits, put-long, put-other}
 use Rattle.block_layout.proofs.put_cell.Statement.{statement}
 use Rattle.block_layout.proofs.put_cell.Tie as tie
 
--- states on the way, each three steps back
+-- states on the way
 abbrev entry : tie.Else1 → tie.Start
 entry c = c .before .before .before
 

@@ -7,7 +7,7 @@ use Rattle.c_archive.specs.Calls.{appendCall}
 use Rattle.c_archive.proofs.append.Statement.{statement}
 use Rattle.c_archive.proofs.append.Tie as tie
 
--- states on the way, each three steps back
+-- states on the way
 abbrev appended : tie.After-settle-arg → tie.After-append
 appended c = c .before .before .before
 

@@ -7,7 +7,7 @@ use Rattle.c_archive.specs.Calls.{appendCall}
 use Rattle.c_archive.proofs.append_at.Statement.{statement}
 use Rattle.c_archive.proofs.append_at.Tie as tie
 
--- states on the way, each three steps back
+-- states on the way
 abbrev appended-at : tie.After-settle-arg → tie.After-append-at
 appended-at c = c .before .before .before
 

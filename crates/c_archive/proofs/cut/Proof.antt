@@ -7,7 +7,7 @@ use Rattle.c_archive.specs.Calls.{appendCall}
 use Rattle.c_archive.proofs.cut.Statement.{statement}
 use Rattle.c_archive.proofs.cut.Tie as tie
 
--- states on the way, each three steps back
+-- states on the way
 abbrev cut-now : tie.After-settle-arg → tie.After-cut
 cut-now c = c .before .before .before
 

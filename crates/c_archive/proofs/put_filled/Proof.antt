@@ -39,7 +39,7 @@ Inv-loop out₀ bytes n i₀ out i = Putting out₀ bytes n out i
 abbrev μ-loop : tie.MeasureT-loop
 μ-loop out₀ bytes n i₀ out i = cellCapacity - i
 
--- states on the way, each three steps back
+-- states on the way
 abbrev start : tie.In-loop Inv-loop μ-loop → tie.Start Inv-loop μ-loop
 start c = c .before .before .before
 

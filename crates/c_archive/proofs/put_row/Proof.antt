@@ -7,7 +7,7 @@ use Rattle.c_archive.specs.Calls.{appendCall}
 use Rattle.c_archive.proofs.put_row.Statement.{statement}
 use Rattle.c_archive.proofs.put_row.Tie as tie
 
--- states on the way, each three steps back
+-- states on the way
 abbrev put-row : tie.After-settle-arg → tie.After-put-row
 put-row c = c .before .before .before
 

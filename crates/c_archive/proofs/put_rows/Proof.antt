@@ -7,7 +7,7 @@ use Rattle.c_archive.proofs.Calls.{put-not, put-at}
 use Rattle.c_archive.proofs.put_rows.Statement.{statement}
 use Rattle.c_archive.proofs.put_rows.Tie as tie
 
--- states on the way, each three steps back
+-- states on the way
 abbrev entry : tie.After-shared-slice-known2 → tie.Start
 entry c = c .before .before .before
 

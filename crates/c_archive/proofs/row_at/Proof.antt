@@ -14,7 +14,7 @@ use Rattle.c_archive.proofs.Calls.{row-other, row-not, row-done, row-ar
 use Rattle.c_archive.proofs.row_at.Statement.{statement}
 use Rattle.c_archive.proofs.row_at.Tie as tie
 
--- states on the way, each three steps back
+-- states on the way
 abbrev flag-byte-known : tie.After-struct-known → tie.After-flag-byte
 flag-byte-known c = c .before .before .before
 

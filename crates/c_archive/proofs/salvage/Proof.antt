@@ -5,7 +5,7 @@ use Rattle.c_archive.proofs.Calls.{salvage-not, salvage-done}
 use Rattle.c_archive.proofs.salvage.Statement.{statement}
 use Rattle.c_archive.proofs.salvage.Tie as tie
 
--- states on the way, each three steps back
+-- states on the way
 abbrev entry : tie.After-slice-known2 → tie.Start
 entry c = c .before .before .before
 

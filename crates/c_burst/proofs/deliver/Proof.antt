@@ -33,7 +33,7 @@ abbrev μ-loop : tie.MeasureT-loop
     replies₀ s₀ i₀ i-end times lengths bytes copies replies s i =
     length moments - i
 
--- states on the way, each three steps back
+-- states on the way
 abbrev start : tie.After-slice-known Inv-loop μ-loop → tie.Start Inv-loop μ-loop
 start c = c .before .before .before
 

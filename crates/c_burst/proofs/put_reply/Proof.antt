@@ -12,7 +12,7 @@ use Rattle.c_burst.specs.Bytes.{replyBytes}
 use Rattle.c_burst.proofs.put_reply.Statement.{statement}
 use Rattle.c_burst.proofs.put_reply.Tie as tie
 
--- states on the way, each three steps back
+-- states on the way
 abbrev start : tie.After-number-of → tie.Start
 start c = c .before .before .before
 

@@ -5,7 +5,7 @@ use Rattle.c_burst.proofs.Sent.{sent-few, answered}
 use Rattle.c_burst.proofs.take_frame.Statement.{statement}
 use Rattle.c_burst.proofs.take_frame.Tie as tie
 
--- states on the way, each three steps back
+-- states on the way
 abbrev entry : tie.After-telegram-in → tie.Start
 entry c = c .before .before .before
 

@@ -10,7 +10,7 @@ use Rattle.c_codec.proofs.Calls.{build-other, build-done}
 use Rattle.c_codec.proofs.build.Statement.{statement}
 use Rattle.c_codec.proofs.build.Tie as tie
 
--- states on the way, each three steps back
+-- states on the way
 abbrev built-now : tie.After-settle-arg → tie.After-build
 built-now c = c .before .before .before
 

@@ -7,7 +7,7 @@ use Rattle.c_layout.specs.Lent.{settled}
 use Rattle.c_codec.proofs.decapsulate.Statement.{statement}
 use Rattle.c_codec.proofs.decapsulate.Tie as tie
 
--- states on the way, each three steps back
+-- states on the way
 abbrev start : tie.After-decapsulate-arg → tie.Start
 start c = c .before .before .before
 

@@ -10,7 +10,7 @@ use Rattle.c_layout.specs.Lent.{settled}
 use Rattle.c_codec.proofs.encapsulate.Statement.{statement}
 use Rattle.c_codec.proofs.encapsulate.Tie as tie
 
--- states on the way, each three steps back
+-- states on the way
 abbrev encapsulated : tie.After-settle-arg → tie.After-encapsulate
 encapsulated c = c .before .before .before
 

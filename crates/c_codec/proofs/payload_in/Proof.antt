@@ -7,7 +7,7 @@ use Rattle.radio_telegram.proofs.Reading.{padded-copy}
 use Rattle.c_codec.proofs.payload_in.Statement.{statement}
 use Rattle.c_codec.proofs.payload_in.Tie as tie
 
--- states on the way, each three steps back
+-- states on the way
 abbrev start : tie.After-copy → tie.Start
 start c = c .before .before .before
 

@@ -12,7 +12,7 @@ use Rattle.c_report.specs.Calls.{reportAt, reportNumbers}
 use Rattle.c_report.proofs.add.Statement.{statement}
 use Rattle.c_report.proofs.add.Tie as tie
 
--- states on the way, each three steps back
+-- states on the way
 abbrev entry : tie.After-report-in-arg2 → tie.Start
 entry c = c .before .before .before
 

@@ -16,7 +16,7 @@ Inv-loop duration k rule low high passed₀ slot₀ passed slot = Passed (plansF
 abbrev μ-loop : tie.MeasureT-loop
 μ-loop duration k rule low high passed₀ slot₀ passed slot = high - slot
 
--- states on the way, each three steps back
+-- states on the way
 abbrev start : tie.After-struct-known2 Inv-loop μ-loop → tie.Start Inv-loop μ-loop
 start c = c .before .before .before
 

@@ -16,7 +16,7 @@ Inv-loop duration first k rule low high passed₀ slot₀ passed slot =
 abbrev μ-loop : tie.MeasureT-loop
 μ-loop duration first k rule low high passed₀ slot₀ passed slot = high - slot
 
--- states on the way, each three steps back
+-- states on the way
 abbrev else1 : tie.After-struct-known2 Inv-loop μ-loop → tie.Else1 Inv-loop μ-loop
 else1 c = c .before .before .before
 

@@ -23,7 +23,7 @@ Inv-loop s from d₀ k₀ d k = Filling s from d k
 abbrev μ-loop : tie.MeasureT-loop
 μ-loop s from d₀ k₀ d k = 8 - k
 
--- states on the way, each three steps back
+-- states on the way
 abbrev start : tie.In-loop Inv-loop μ-loop → tie.Start Inv-loop μ-loop
 start c = c .before .before .before
 

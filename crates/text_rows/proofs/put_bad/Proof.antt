@@ -12,7 +12,7 @@ use Rattle.base_buffers.proofs.Stores.{not-fitting, fitting}
 use Rattle.text_rows.proofs.put_bad.Statement.{statement}
 use Rattle.text_rows.proofs.put_bad.Tie as tie
 
--- states on the way, each three steps back
+-- states on the way
 abbrev has-room : tie.After-write → tie.Else1
 has-room c = c .before .before .before
 

@@ -5,7 +5,7 @@ use borrow.Author.Needs.{needs}
 use Rattle.text_rows.proofs.put_digits.Statement.{statement}
 use Rattle.text_rows.proofs.put_digits.Tie as tie
 
--- states on the way, each three steps back
+-- states on the way
 abbrev start : tie.After-digits-of → tie.Start
 start c = c .before .before .before
 

@@ -4,7 +4,7 @@ use borrow.Author.Needs.{needs}
 use Rattle.text_rows.proofs.put_eight.Statement.{statement}
 use Rattle.text_rows.proofs.put_eight.Tie as tie
 
--- states on the way, each three steps back
+-- states on the way
 abbrev copied-part : tie.After-copy-part-arg → tie.After-copy-part
 copied-part c = c .before .before .before
 

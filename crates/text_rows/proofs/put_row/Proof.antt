@@ -13,7 +13,7 @@ use Rattle.base_buffers.proofs.Stores.{not-fitting, fitting}
 use Rattle.text_rows.proofs.put_row.Statement.{statement}
 use Rattle.text_rows.proofs.put_row.Tie as tie
 
--- states on the way, each three steps back
+-- states on the way
 abbrev start : tie.After-shared-slice-known2 → tie.Start
 start c = c .before .before .before
 

@@ -13,7 +13,7 @@ use Rattle.base_buffers.proofs.Stores.{not-fitting, fitting}
 use Rattle.text_rows.proofs.put_totals.Statement.{statement}
 use Rattle.text_rows.proofs.put_totals.Tie as tie
 
--- states on the way, each three steps back
+-- states on the way
 abbrev has-room : tie.After-out → tie.Else1
 has-room c = c .before .before .before
 

@@ -6,7 +6,7 @@ use borrow.Author.Needs.{needs}
 use Rattle.text_rows.proofs.write.Statement.{statement}
 use Rattle.text_rows.proofs.write.Tie as tie
 
--- states on the way, each three steps back
+-- states on the way
 abbrev put-eight : tie.After-put-eight-arg2 → tie.After-put-eight
 put-eight c = c .before .before .before
 

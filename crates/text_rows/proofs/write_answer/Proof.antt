@@ -7,7 +7,7 @@ use Rattle.text_rows.proofs.Words.{kept-alone, kept-sends}
 use Rattle.text_rows.proofs.write_answer.Statement.{statement}
 use Rattle.text_rows.proofs.write_answer.Tie as tie
 
--- states on the way, each three steps back
+-- states on the way
 abbrev told : tie.After-write-arg2 → tie.After-enum-told
 told c = c .before .before .before
 

@@ -5,7 +5,7 @@ use Rattle.base_buffers.proofs.Stores.{then}
 use Rattle.text_rows.proofs.write_count.Statement.{statement}
 use Rattle.text_rows.proofs.write_count.Tie as tie
 
--- states on the way, each three steps back
+-- states on the way
 abbrev written : tie.After-write-decimal-arg → tie.After-write
 written c = c .before .before .before
 

@@ -7,7 +7,7 @@ use Rattle.base_buffers.proofs.Stores.{loosened, take-rest}
 use Rattle.text_rows.proofs.write_decimal.Statement.{statement}
 use Rattle.text_rows.proofs.write_decimal.Tie as tie
 
--- states on the way, each three steps back
+-- states on the way
 abbrev spell-known : tie.After-digits3 → tie.After-spell
 spell-known c = c .before .before .before
 

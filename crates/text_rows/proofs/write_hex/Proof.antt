@@ -11,7 +11,7 @@ use borrow.Author.Needs.{needs}
 use Rattle.text_rows.proofs.write_hex.Statement.{statement}
 use Rattle.text_rows.proofs.write_hex.Tie as tie
 
--- states on the way, each three steps back
+-- states on the way
 abbrev start : tie.Else1 → tie.Start
 start c = c .before .before .before
 

@@ -25,7 +25,7 @@ Inv-loop out₀ at s i₀ to₀ out i to = Writing s at i to out₀ out
 abbrev μ-loop : tie.MeasureT-loop
 μ-loop out₀ at s i₀ to₀ out i to = length s - i
 
--- states on the way, each three steps back
+-- states on the way
 abbrev start : tie.At-loop Inv-loop μ-loop → tie.Start Inv-loop μ-loop
 start c = c .before .before .before
 

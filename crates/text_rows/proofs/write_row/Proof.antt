@@ -6,7 +6,7 @@ use Rattle.base_buffers.proofs.Stores.{loosened, then}
 use Rattle.text_rows.proofs.write_row.Statement.{statement}
 use Rattle.text_rows.proofs.write_row.Tie as tie
 
--- states on the way, each three steps back
+-- states on the way
 abbrev written : tie.After-write-arg2 → tie.After-write
 written c = c .before .before .before
 

@@ -14,7 +14,7 @@ use Rattle.c_pieces.proofs.Addings.{end-kept}
 use Rattle.c_pieces.proofs.adding.end.Statement.{statement}
 use Rattle.c_pieces.proofs.adding.end.Tie as tie
 
--- states on the way, each three steps back
+-- states on the way
 abbrev entry : tie.After-adding-in → tie.Start
 entry c = c .before .before .before
 

@@ -12,7 +12,7 @@ use Rattle.c_pieces.proofs.Addings.{feed-report, feed-kept}
 use Rattle.c_pieces.proofs.adding.feed.Statement.{statement}
 use Rattle.c_pieces.proofs.adding.feed.Tie as tie
 
--- states on the way, each three steps back
+-- states on the way
 abbrev entry : tie.After-adding-in-arg2 → tie.Start
 entry c = c .before .before .before
 

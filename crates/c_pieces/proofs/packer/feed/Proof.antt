@@ -5,7 +5,7 @@ use Rattle.c_pieces.proofs.Packers.{pack-not, pack-done}
 use Rattle.c_pieces.proofs.packer.feed.Statement.{statement}
 use Rattle.c_pieces.proofs.packer.feed.Tie as tie
 
--- states on the way, each three steps back
+-- states on the way
 abbrev entry : tie.After-slice-known → tie.Start
 entry c = c .before .before .before
 

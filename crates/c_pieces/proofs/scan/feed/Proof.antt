@@ -10,7 +10,7 @@ use Rattle.c_pieces.proofs.Scans.{shown-kept, shown-taken}
 use Rattle.c_pieces.proofs.scan.feed.Statement.{statement}
 use Rattle.c_pieces.proofs.scan.feed.Tie as tie
 
--- states on the way, each three steps back
+-- states on the way
 abbrev entry : tie.After-scan-of-arg2 → tie.Start
 entry c = c .before .before .before
 

@@ -6,7 +6,7 @@ use Rattle.radio_telegram.proofs.Building.{no-data, much-data, outer-ro
 use Rattle.radio_telegram.proofs.fields.admission.Statement.{statement}
 use Rattle.radio_telegram.proofs.fields.admission.Tie as tie
 
--- states on the way, each three steps back
+-- states on the way
 abbrev start : tie.After-struct-known2 → tie.Start
 start c = c .before .before .before
 

@@ -9,7 +9,7 @@ use Rattle.radio_telegram.proofs.Building.{bytes-length}
 use Rattle.radio_telegram.proofs.fields.frame_of.Statement.{statement}
 use Rattle.radio_telegram.proofs.fields.frame_of.Tie as tie
 
--- states on the way, each three steps back
+-- states on the way
 abbrev start : tie.After-payload2 → tie.Start
 start c = c .before .before .before
 

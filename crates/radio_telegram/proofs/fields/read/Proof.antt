@@ -9,7 +9,7 @@ use Rattle.radio_telegram.proofs.Reading.{fields-plain, fields-addresse
 use Rattle.radio_telegram.proofs.fields.read.Statement.{statement}
 use Rattle.radio_telegram.proofs.fields.read.Tie as tie
 
--- states on the way, each three steps back
+-- states on the way
 abbrev start : tie.At-match-keys2 → tie.Start
 start c = c .before .before .before
 

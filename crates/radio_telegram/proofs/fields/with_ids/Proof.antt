@@ -11,7 +11,7 @@ use Rattle.radio_telegram.proofs.Frames.{extended-twice}
 use Rattle.radio_telegram.proofs.fields.with_ids.Statement.{statement}
 use Rattle.radio_telegram.proofs.fields.with_ids.Tie as tie
 
--- states on the way, each three steps back
+-- states on the way
 abbrev start : tie.Else1 → tie.Start
 start c = c .before .before .before
 

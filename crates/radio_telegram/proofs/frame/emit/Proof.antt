@@ -7,7 +7,7 @@ use Rattle.radio_telegram.proofs.Frames.{frame-len, frame-take, put-sho
 use Rattle.radio_telegram.proofs.frame.emit.Statement.{statement}
 use Rattle.radio_telegram.proofs.frame.emit.Tie as tie
 
--- states on the way, each three steps back
+-- states on the way
 abbrev start : tie.Else1 → tie.Start
 start c = c .before .before .before
 

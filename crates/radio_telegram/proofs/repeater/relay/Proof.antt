@@ -13,7 +13,7 @@ use Rattle.radio_telegram.proofs.Repeating.{level-at, relay-short, rela
 use Rattle.radio_telegram.proofs.repeater.relay.Statement.{statement}
 use Rattle.radio_telegram.proofs.repeater.relay.Tie as tie
 
--- states on the way, each three steps back
+-- states on the way
 abbrev entry : tie.Else2 → tie.Start
 entry c = c .before .before .before
 

@@ -7,7 +7,7 @@ use Rattle.radio_telegram.proofs.Frames.{frame-append}
 use Rattle.radio_telegram.proofs.frame.Frame.append.Statement.{statement}
 use Rattle.radio_telegram.proofs.frame.Frame.append.Tie as tie
 
--- states on the way, each three steps back
+-- states on the way
 abbrev start : tie.After-bytes2 → tie.Start
 start c = c .before .before .before
 
