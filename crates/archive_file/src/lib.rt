@@ -26,7 +26,7 @@ const FIELD: usize = 9;
 const LAST: usize = 30;
 
 // How many rows an archive has, or the position of the first block that does not match.
-#[derive(Drop)]
+#[derive(Clone, Copy)]
 pub enum Opened {
     Rows(usize),
     Damaged(usize),
@@ -34,7 +34,7 @@ pub enum Opened {
 }
 
 // Whether a row was appended, or the position of the block that does not match.
-#[derive(Drop)]
+#[derive(Clone, Copy)]
 pub enum ArchiveOutcome {
     Done,
     Damaged(usize),
@@ -42,14 +42,14 @@ pub enum ArchiveOutcome {
 }
 
 // Whether there is such a row.
-#[derive(Drop)]
+#[derive(Clone, Copy)]
 pub enum Found {
     Row,
     Refused(Refusal),
 }
 
 // A row that was read, and the 21 bytes of its cell: those after the length are unspecified. With a refusal, everything is zero.
-#[derive(Drop)]
+#[derive(Clone, Copy)]
 pub struct RowAt {
     pub answer: Found,
     pub time: u64,
@@ -59,7 +59,7 @@ pub struct RowAt {
 }
 
 // What is known of the blocks so far: all are full; the last one is short; there was an all-zero one; or one does not match.
-#[derive(Drop)]
+#[derive(Clone, Copy)]
 pub enum Stage {
     Filling,
     Short,
@@ -68,7 +68,7 @@ pub enum Stage {
 }
 
 // An archive that is read in pieces: how many blocks were read, and how many rows they have.
-#[derive(Drop)]
+#[derive(Clone, Copy)]
 pub struct Scan {
     pub blocks: usize,
     pub rows: usize,
@@ -76,7 +76,7 @@ pub struct Scan {
 }
 
 // The scan after a piece; with a refusal, the scan that was handed in.
-#[derive(Drop)]
+#[derive(Clone, Copy)]
 pub struct Fed {
     pub next: Scan,
     pub answer: Outcome,

@@ -19,7 +19,7 @@ use radio_erp1::Checked;
 pub const ROW_LENGTH: usize = 2 + CELL_CAPACITY;
 
 // Whether the rows were put; with a refusal, its position.
-#[derive(Drop)]
+#[derive(Clone, Copy)]
 pub struct Filled {
     pub answer: Outcome,
     pub position: usize,

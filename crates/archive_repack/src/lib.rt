@@ -30,7 +30,7 @@ pub const PENDING_LENGTH: usize = FULL_LENGTH + FULL_LENGTH;
 const FIELD: usize = 9;
 
 // How many blocks were dropped, and how many rows remain.
-#[derive(Drop)]
+#[derive(Clone, Copy)]
 pub struct Salvaged {
     pub answer: Outcome,
     pub dropped: usize,
@@ -38,7 +38,7 @@ pub struct Salvaged {
 }
 
 // How many blocks were freed, or the position of the first block that does not match.
-#[derive(Drop)]
+#[derive(Clone, Copy)]
 pub enum Removed {
     Done(usize),
     Damaged(usize),
@@ -46,7 +46,7 @@ pub enum Removed {
 }
 
 // The packer after a piece: how many cells wait, the number of the next block, and how many blocks of the piece were dropped.
-#[derive(Drop)]
+#[derive(Clone, Copy)]
 pub struct Repacked {
     pub answer: Outcome,
     pub used: usize,
@@ -55,14 +55,14 @@ pub struct Repacked {
 }
 
 // The length of the last block, 512 or 0.
-#[derive(Drop)]
+#[derive(Clone, Copy)]
 pub struct Ended {
     pub answer: Outcome,
     pub len: usize,
 }
 
 // The packer after some blocks: how many cells wait, the number of the next block, and how many blocks were dropped.
-#[derive(Drop)]
+#[derive(Clone, Copy)]
 struct Walk {
     used: usize,
     next: usize,
@@ -102,7 +102,7 @@ fn push_cell(pending: &mut [u8], at: usize, cell: &[u8], identities: &[u32]) -> 
     if is_listed(identity_of(cell), identities) {
         return at;
     }
-    bytes::copy(
+    base_bytes::copy(
         cell,
         &mut pending[CELL_LENGTH * at..CELL_LENGTH * at + CELL_LENGTH],
     );
@@ -141,7 +141,7 @@ fn put_block(out: &mut [u8], k: usize, cells: &[u8])
     block_layout::put_number(&mut out[0..4], k as u64);
     out[4] = (cells.len() / CELL_LENGTH) as u8;
     block_layout::clear(&mut out[5..HEADER_LENGTH]);
-    bytes::copy(cells, &mut out[HEADER_LENGTH..end]);
+    base_bytes::copy(cells, &mut out[HEADER_LENGTH..end]);
     block_layout::clear(&mut out[end..BODY_LENGTH]);
     block_layout::seal(out);
 }
@@ -153,8 +153,8 @@ fn move_front(pending: &mut [u8])
         ≡ drop packer.full_length pending.old ++ drop packer.full_length pending.old }
 {
     let mut later = [0u8; FULL_LENGTH];
-    bytes::copy(&pending[FULL_LENGTH..PENDING_LENGTH], &mut later);
-    bytes::copy(&later, &mut pending[0..FULL_LENGTH]);
+    base_bytes::copy(&pending[FULL_LENGTH..PENDING_LENGTH], &mut later);
+    base_bytes::copy(&later, &mut pending[0..FULL_LENGTH]);
 }
 
 // If 15 of `total` cells fill block `k`, writes it; the others wait.

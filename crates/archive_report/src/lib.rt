@@ -21,7 +21,7 @@ use tally::Tally;
 pub(crate) const LINE_LENGTH: usize = 5;
 
 // The archives added so far: how many there are, how many lines, the totals, and the lines, five numbers each.
-#[derive(Drop)]
+#[derive(Clone, Copy)]
 pub struct Report {
     pub archives: usize,
     pub count: usize,
@@ -31,28 +31,28 @@ pub struct Report {
 }
 
 // The report after an archive; with a refusal, the report that was handed in.
-#[derive(Drop)]
+#[derive(Clone, Copy)]
 pub struct Added {
     pub next: Report,
     pub answer: ArchiveOutcome,
 }
 
 // The share of a report's rows in receptions, in whole thousandths.
-#[derive(Drop)]
+#[derive(Clone, Copy)]
 pub enum Share {
     PerMille(u64),
     Refused(Refusal),
 }
 
 // Whether there is such a line.
-#[derive(Drop)]
+#[derive(Clone, Copy)]
 pub enum Looked {
     Line,
     Refused(Refusal),
 }
 
 // A line of a report.
-#[derive(Drop)]
+#[derive(Clone, Copy)]
 pub struct LineAt {
     pub answer: Looked,
     pub identity: u64,
@@ -64,7 +64,7 @@ pub struct LineAt {
 
 // An archive that is added in pieces: the report before it; the scan, the number of lines, the totals and the lines so far; and whether there were
 // more than 256 transmitters.
-#[derive(Drop)]
+#[derive(Clone, Copy)]
 pub struct Adding {
     pub before: Report,
     pub scan: Scan,
@@ -76,7 +76,7 @@ pub struct Adding {
 }
 
 // What is known after a piece; with a refusal, what was handed in.
-#[derive(Drop)]
+#[derive(Clone, Copy)]
 pub struct Fed {
     pub next: Adding,
     pub answer: Outcome,

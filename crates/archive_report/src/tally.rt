@@ -82,7 +82,7 @@ fn loose_rows(block: &[u8], used: usize) -> u64
 }
 
 // What is known after some blocks: the scan, the number of lines, the totals, and whether there were more than 256 transmitters.
-#[derive(Drop)]
+#[derive(Clone, Copy)]
 pub struct Tally {
     pub scan: Scan,
     pub count: usize,

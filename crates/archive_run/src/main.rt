@@ -52,7 +52,7 @@ fn calls(buffer: &mut [u8], out: &mut [u8], list: &mut [u64], most: u64)
 }
 
 // The next record; `more` is false after the last one.
-#[derive(Drop)]
+#[derive(Clone, Copy)]
 struct Input {
     more: bool,
     bytes: [u8; test_io::LONG],
@@ -68,7 +68,7 @@ fn next_input() -> Input {
 }
 
 // How long the archive's buffer is after a call, whether there was one, and the report.
-#[derive(Drop)]
+#[derive(Clone, Copy)]
 struct Next {
     len: usize,
     more: bool,

@@ -122,10 +122,12 @@ module _ {A : Type 0} (g : ℕ → List A) where
   pub flat_map-from : {x : A} (a n : ℕ) → Memᴰ x (flat_map g (up_from a n))
       → (i : ℕ) × (a ≤ i) × (i < a + n) × Memᴰ x (g i)
   unfolding flat_map up_from
-  flat_map-from a zero m = absurd (Memᴰ.not-nil m)
-  flat_map-from a (suc n) m =
+  flat_map-from {x = x} a zero m = absurd (Memᴰ.not-nil m)
+  flat_map-from {x = x} a (suc n) m =
       ⊎_elim (λ k. (a, omega arith, omega arith, k))
-      (λ k. let w = flat_map-from (suc a) n k in (w.0, omega arith, omega arith, w.3))
+      (λ k.
+      let w : (i : ℕ) × (suc a ≤ i) × (i < suc a + n) × Memᴰ x (g i) = flat_map-from {x = x} (suc a) n k in
+      (w.0, omega (arith, w.1), omega (arith, w.2), w.3))
       (Memᴰ.append_cases (g a) m)
 
   -- each block is in order, and each element of a block stands before those of later blocks

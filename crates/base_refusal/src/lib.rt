@@ -2,7 +2,7 @@
 ghost use Rattle.std.specs.Prelude.{◌≡◌};
 ghost use Rattle.base_refusal.specs.Number.{number_of, outcome_number};
 
-#[derive(Drop)]
+#[derive(Clone, Copy)]
 pub enum Refusal {
     // 1: the length is wrong.
     Length,
@@ -72,7 +72,7 @@ pub fn number(r: Refusal) -> u8
 }
 
 // Whether a call was done, or why it was refused.
-#[derive(Drop)]
+#[derive(Clone, Copy)]
 pub enum Outcome {
     Done,
     Refused(Refusal),

@@ -180,7 +180,7 @@ fn put_reply(reply: &mut [u8], answer: Answer, len: usize, sent: &[u8; Collector
     reply[0] = c_collector::kind_of(answer);
     reply[1] = c_collector::number_of(answer);
     reply[2] = len as u8;
-    bytes::copy(sent, &mut reply[3..REPLY_LENGTH]);
+    base_bytes::copy(sent, &mut reply[3..REPLY_LENGTH]);
 }
 
 // The bytes of a frame's reception: none if its length is over 21, because the check gives both the same answer.

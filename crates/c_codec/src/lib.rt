@@ -125,7 +125,7 @@ fn id_in(part: &[u8]) -> [u8; 4]
     ensures { result ≡ part.now }
 {
     let mut id = [0u8; 4];
-    bytes::copy(part, &mut id);
+    base_bytes::copy(part, &mut id);
     id
 }
 
@@ -134,7 +134,7 @@ fn payload_in(part: &[u8]) -> [u8; MAX_DATA]
     ensures { result ≡ part.now }
 {
     let mut payload = [0u8; MAX_DATA];
-    bytes::copy(part, &mut payload);
+    base_bytes::copy(part, &mut payload);
     payload
 }
 

@@ -129,7 +129,7 @@ fn payload_in(part: &[u8]) -> [u8; MAX_DATA]
     ensures { result ≡ part.now }
 {
     let mut payload = [0u8; MAX_DATA];
-    bytes::copy(part, &mut payload);
+    base_bytes::copy(part, &mut payload);
     payload
 }
 
@@ -138,6 +138,6 @@ fn optional_in(part: &[u8]) -> [u8; MAX_OPTIONAL]
     ensures { result ≡ part.now }
 {
     let mut optional = [0u8; MAX_OPTIONAL];
-    bytes::copy(part, &mut optional);
+    base_bytes::copy(part, &mut optional);
     optional
 }

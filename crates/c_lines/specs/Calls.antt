@@ -1,7 +1,7 @@
 -- What the calls answer that take lines, read the first line, read one line or skip lines, and what they write into
 -- lent memory.
 use Rattle.std.specs.Prelude.{ℕ, ◌+◌, ◌*◌, ◌≤◌, ◌<◌, ◌≡◌, Bool, true, cond, not, List, [], ◌∷◌, eqb, ltb, length, get_or, take, drop}
-use Rattle.bytes.specs.Bytes.{index_of}
+use Rattle.base_bytes.specs.Bytes.{index_of}
 use Rattle.base_refusal.specs.Number.{number_of}
 use Rattle.base_refusal.specs.declared.Refusal.TheVariants.{NotAccepted, Argument}
 use Rattle.collector_model.specs.Acceptable.{acceptable}

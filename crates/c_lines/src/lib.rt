@@ -107,7 +107,7 @@ pub fn first_line(input: &[u8], done: &mut [u64; FIRST]) -> u8
     ensures { (result ≡ first_number input.now) × (done.new ≡ first_used input.now ∷ []) }
 {
     let end = input.len();
-    let n = bytes::scan::find(input, 0, end, 10);
+    let n = base_bytes::find(input, 0, end, 10);
     if end <= n {
         *done = [0];
         return NO_LINE;
@@ -155,7 +155,7 @@ pub fn skip_lines(input: &[u8], most: usize, done: &mut [u64; SKIPPED])
     let mut at = 0;
     let mut left = most;
     while 0 < left {
-        let n = bytes::scan::find(input, at, end, 10);
+        let n = base_bytes::find(input, at, end, 10);
         if end <= n {
             break;
         }

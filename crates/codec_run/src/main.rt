@@ -236,7 +236,7 @@ fn payload(part: &[u8]) -> [u8; 14]
     requires { length part.now ≡ 14 }
 {
     let mut bytes = [0u8; 14];
-    bytes::copy(part, &mut bytes);
+    base_bytes::copy(part, &mut bytes);
     bytes
 }
 

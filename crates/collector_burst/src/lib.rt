@@ -17,7 +17,7 @@ pub const MAX_BURST: usize = 256;
 pub const LISTED: usize = MAX_BURST + 3;
 
 // One reception of a list: the first `len` of its bytes, and the moment they were complete, in ms.
-#[derive(Drop)]
+#[derive(Clone, Copy)]
 pub struct Reception {
     pub bytes: [u8; Collector::MAX_LEN],
     pub len: u8,
@@ -25,14 +25,14 @@ pub struct Reception {
 }
 
 // The answer to a reception, and the telegram to send.
-#[derive(Drop)]
+#[derive(Clone, Copy)]
 pub struct Reply {
     pub answer: Answer,
     pub sent: Frame,
 }
 
 // The summary after a reception, and the reply to it.
-#[derive(Drop)]
+#[derive(Clone, Copy)]
 pub struct Stepped {
     pub summary: Summary,
     pub reply: Reply,
@@ -126,14 +126,14 @@ fn deliver(
 }
 
 // The next state, and whether the burst was taken.
-#[derive(Drop)]
+#[derive(Clone, Copy)]
 pub struct Bursted {
     pub next: Collector,
     pub answer: Outcome,
 }
 
 // What is done with a burst: the result of the test of the state, how many of its receptions are taken, and the answer.
-#[derive(Drop)]
+#[derive(Clone, Copy)]
 pub struct Plan {
     pub fit: bool,
     pub count: usize,
@@ -229,7 +229,7 @@ fn finish(
 }
 
 // The result of a burst that gets the front of two lists, and the second list after it.
-#[derive(Drop)]
+#[derive(Clone, Copy)]
 pub struct Within {
     pub bursted: Bursted,
     pub replies: [Reply; LISTED],

@@ -32,7 +32,7 @@ const NO_SETTING: u64 = 0;
 const CELLS_LENGTH: usize = BLOCK_LENGTH - 1 - HEADER_LENGTH;
 
 // The state of an image; with a refusal, the state that was handed in.
-#[derive(Drop)]
+#[derive(Clone, Copy)]
 pub struct Restored {
     pub next: Collector,
     pub answer: Outcome,

@@ -2,7 +2,7 @@
 use base_refusal::Refusal;
 
 // Each total is the number of such answers in the history; received counts all but 8 (document 01, "Merging").
-#[derive(Drop)]
+#[derive(Clone, Copy)]
 pub struct Totals {
     pub received: u64,
     pub kept: u64,
@@ -13,7 +13,7 @@ pub struct Totals {
 }
 
 // The answer to a reception.
-#[derive(Drop)]
+#[derive(Clone, Copy)]
 pub enum Answer {
     // The reception opens a telegram.
     Kept,

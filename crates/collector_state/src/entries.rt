@@ -275,7 +275,7 @@ fn store_bytes(xs: &mut [u8], at: usize, src: &[u8])
     requires { at + length src.now ≤ length xs.old }
     ensures { xs.new ≡ put_if true at src.now xs.old }
 {
-    bytes::copy(src, &mut xs[at..]);
+    base_bytes::copy(src, &mut xs[at..]);
 }
 
 // a - b, or 0 if b is greater.

@@ -16,7 +16,7 @@ use collector_model::{Answer, Totals};
 
 // The state, in flat arrays. Of the first `summary.count` entries, in opening order, entry i has times[i], lens[i], copies[i] and the 21 bytes from
 // 21 i on, of which the first lens[i] are those received. All other elements are unspecified.
-#[derive(Drop)]
+#[derive(Clone, Copy)]
 pub struct Collector {
     pub times: [u64; Collector::CAPACITY],
     pub lens: [u8; Collector::CAPACITY],
@@ -26,7 +26,7 @@ pub struct Collector {
 }
 
 // The counters of a state: how many telegrams are open, the latest time, and the totals.
-#[derive(Drop)]
+#[derive(Clone, Copy)]
 pub struct Summary {
     pub count: usize,
     pub latest: u64,
@@ -34,14 +34,14 @@ pub struct Summary {
 }
 
 // The next state and the answer.
-#[derive(Drop)]
+#[derive(Clone, Copy)]
 pub struct Taken {
     pub next: Collector,
     pub answer: Answer,
 }
 
 // How often an open telegram was received again; 0 with a refusal.
-#[derive(Drop)]
+#[derive(Clone, Copy)]
 pub struct Heard {
     pub answer: Outcome,
     pub copies: u16,

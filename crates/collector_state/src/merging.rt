@@ -17,7 +17,7 @@ use collector_model::{Answer, Totals};
 use radio_erp1::Checked;
 
 // The summary after a reception, and the answer.
-#[derive(Drop)]
+#[derive(Clone, Copy)]
 pub struct Admitted {
     pub summary: Summary,
     pub answer: Answer,
@@ -103,7 +103,7 @@ fn now_open(count: usize, latest: u64, totals: Totals, answer: Answer) -> Admitt
 
 // What one reception changes: the first `gone` entries are dropped, and `left` stay. If `heard`, entry `entry` of these was received again. If
 // `kept`, the reception is put after them. `summary` is the rest of the new state.
-#[derive(Drop)]
+#[derive(Clone, Copy)]
 pub(crate) struct Decision {
     pub(crate) gone: usize,
     pub(crate) left: usize,
@@ -115,7 +115,7 @@ pub(crate) struct Decision {
 }
 
 // What a reception that passed the tests is; for a copy, the entry that it is a copy of.
-#[derive(Drop)]
+#[derive(Clone, Copy)]
 enum Judged {
     Kept,
     Copy(usize),

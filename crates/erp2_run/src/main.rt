@@ -25,7 +25,7 @@ fn records(most: u64) {
 }
 
 // A record; `more` is false after the last one.
-#[derive(Drop)]
+#[derive(Clone, Copy)]
 struct Input {
     more: bool,
     bytes: [u8; test_io::LONG],
@@ -133,7 +133,7 @@ fn payload_of(part: &[u8]) -> [u8; MAX_DATA]
     requires { length part.now ≡ 250 }
 {
     let mut bytes = [0u8; MAX_DATA];
-    bytes::copy(part, &mut bytes);
+    base_bytes::copy(part, &mut bytes);
     bytes
 }
 
@@ -141,7 +141,7 @@ fn optional_of(part: &[u8]) -> [u8; MAX_OPTIONAL]
     requires { length part.now ≡ 15 }
 {
     let mut bytes = [0u8; MAX_OPTIONAL];
-    bytes::copy(part, &mut bytes);
+    base_bytes::copy(part, &mut bytes);
     bytes
 }
 

@@ -9,7 +9,7 @@ use lib.Dec.{eqb, ltb}
 use lib.ListN.{length, get_or, take, drop, take-append-drop, length-take, length-drop}
 use lib.Seq.{take-add, take-take, length-take-le}
 use borrow.Author.Tests.{ltb-true, ltb-false, ne_eqb}
-use Rattle.bytes.specs.Bytes.{index_of}
+use Rattle.base_bytes.specs.Bytes.{index_of}
 use Rattle.base_lists.proofs.Tests.{by_test}
 use Rattle.base_lists.proofs.Padded.{take-padded}
 use Rattle.text_lines.specs.Ascii.{newline}

@@ -25,7 +25,7 @@ use lib.ListN.{
 }
 use lib.Seq.{take_all, drop-append_seam}
 use borrow.Author.Tests.{le-leb, lt-leb, lt-ltb, ltb-false, leb-true, leb-false, eq-eqb, ne_eqb, eqb-false, ltb-true}
-use Rattle.bytes.specs.Bytes.{index_of}
+use Rattle.base_bytes.specs.Bytes.{index_of}
 use Rattle.base_lists.specs.Lists.{equal}
 use Rattle.base_lists.proofs.Choice.{neither}
 use Rattle.base_lists.proofs.Equal.{equal_eq}

@@ -15,7 +15,7 @@ use lib.Dec.{lit<, eqb, ltb, leb}
 use lib.ListN.{length, take, drop, length-take, length-append, take-append-drop}
 use lib.Seq.{take-nil, take-append-le, length-take-le}
 use borrow.Author.Tests.{leb-true, leb-false, ltb-true, ltb-false}
-use Rattle.bytes.specs.Bytes.{index_of}
+use Rattle.base_bytes.specs.Bytes.{index_of}
 use Rattle.base_lists.specs.Lists.{equal, up_from}
 use Rattle.base_lists.proofs.Tests.{branch, by_test}
 use Rattle.collector_model.specs.View.{fresh}

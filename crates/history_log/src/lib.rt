@@ -40,7 +40,7 @@ const WHOLE: usize = LINE_LIMIT + 1;
 
 // 0 or the number of a refusal; the position that goes with 12; then the number of rows in the archive, of telegrams that the log closes, and of lines
 // that were taken.
-#[derive(Drop)]
+#[derive(Clone, Copy)]
 pub struct Kept {
     pub number: u8,
     pub position: usize,
@@ -50,7 +50,7 @@ pub struct Kept {
 }
 
 // Whether the rows of a text and what it closes fit, and the number of rows and closings after it.
-#[derive(Drop)]
+#[derive(Clone, Copy)]
 pub(crate) struct Pass {
     pub fits: bool,
     pub rows: usize,
@@ -58,7 +58,7 @@ pub(crate) struct Pass {
 }
 
 // The number of characters, rows and closings of some lines, and whether the rows and closings fit.
-#[derive(Drop)]
+#[derive(Clone, Copy)]
 pub(crate) struct Turn {
     pub used: usize,
     pub rows: usize,
@@ -485,7 +485,7 @@ fn end_line(line: &[u8], whole: &mut [u8]) -> usize
         × (take result whole.new ≡ take line_limit line.now ++ (newline ∷ [])) }
 {
     let n = least(line.len(), LINE_LIMIT);
-    bytes::copy(&line[0..n], whole);
+    base_bytes::copy(&line[0..n], whole);
     whole[n] = 10;
     n + 1
 }
@@ -604,5 +604,5 @@ fn put_closings(write: bool, heard: &mut [u8], m: usize, cells: &[u8])
         return;
     }
     let at = CELL_LENGTH * m;
-    bytes::copy(cells, &mut heard[at..]);
+    base_bytes::copy(cells, &mut heard[at..]);
 }

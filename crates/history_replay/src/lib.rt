@@ -41,7 +41,7 @@ pub const DELIVERING: u8 = 6;
 pub const ASKING: u8 = 7;
 
 // How many bytes were written for the calls.
-#[derive(Drop)]
+#[derive(Clone, Copy)]
 pub struct Replayed {
     pub written: usize,
     pub answer: Outcome,

@@ -12,7 +12,7 @@ use base_refusal::{Outcome, Refusal};
 use collector_state::Collector;
 
 // The state after the calls, and how many bytes were written for them.
-#[derive(Drop)]
+#[derive(Clone, Copy)]
 pub struct Left {
     pub next: Collector,
     pub replayed: Replayed,

@@ -14,7 +14,7 @@ use history_replay::Replayed;
 const IMAGE: usize = 2560;
 
 // A history in progress: the setting that its caller keeps, and how many images it has printed.
-#[derive(Drop)]
+#[derive(Clone, Copy)]
 struct Session {
     setting: u8,
     shown: u8,

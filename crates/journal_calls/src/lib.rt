@@ -6,7 +6,7 @@ pub mod scan;
 
 // The block with the last row that a state counts: it is the state's copy; it is the copy with more rows after it; a write of it was torn; or it
 // belongs to another archive.
-#[derive(Drop)]
+#[derive(Clone, Copy)]
 pub enum Judgement {
     Same,
     Longer,
@@ -16,7 +16,7 @@ pub enum Judgement {
 
 // Blocks that are read as an archive in files of `limit` blocks: the number that the next one must have, how many were read, how many rows they have,
 // and whether the run has ended.
-#[derive(Drop)]
+#[derive(Clone, Copy)]
 pub struct Run {
     pub limit: usize,
     pub place: usize,

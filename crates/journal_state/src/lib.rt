@@ -28,7 +28,7 @@ pub const LENGTH: usize = 4096;
 const OLD_LENGTH: usize = 3584;
 
 // How many rows an image counts, if it is accepted.
-#[derive(Drop)]
+#[derive(Clone, Copy)]
 pub struct Counted {
     pub accepted: bool,
     pub rows: u64,

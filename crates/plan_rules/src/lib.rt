@@ -97,7 +97,7 @@ const PAUSED_OF_THREE: Rule = Rule {
 };
 
 // How many transmissions may be requested.
-#[derive(Drop)]
+#[derive(Clone, Copy)]
 pub struct Offer {
     pub fewest: u8,
     pub most: u8,

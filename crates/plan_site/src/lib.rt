@@ -10,7 +10,7 @@ use plan_slots::SlotPlan;
 pub const MAX_REPEATERS: usize = 32;
 
 // What a repeater sends: its rule, level, duration and slots.
-#[derive(Drop)]
+#[derive(Clone, Copy)]
 pub struct Assignment {
     pub rule: u8,
     pub level: u8,
@@ -19,7 +19,7 @@ pub struct Assignment {
 }
 
 // The result of the check, with the repeaters that it names, counted from 0.
-#[derive(Drop)]
+#[derive(Clone, Copy)]
 pub enum Verdict {
     Accepted,
     // 10.

@@ -6,7 +6,7 @@ ghost use Rattle.plan_slots.specs.Search.{second_follows, third_follows, IsRow, 
 use base_refusal::Refusal;
 
 // Slots from first to last; empty if first is above last.
-#[derive(Drop)]
+#[derive(Clone, Copy)]
 pub struct SlotRange {
     pub first: u8,
     pub last: u8,
@@ -14,7 +14,7 @@ pub struct SlotRange {
 
 // A timing rule: the range of each transmission, of which the third may be empty; the shortest pause before the second; and the last end, in
 // microseconds.
-#[derive(Drop)]
+#[derive(Clone, Copy)]
 pub struct Rule {
     pub ranges: [SlotRange; 3],
     pub pause: u32,
@@ -22,7 +22,7 @@ pub struct Rule {
 }
 
 // A slot for each transmission; the third is NO_SLOT if the rule has none.
-#[derive(Drop)]
+#[derive(Clone, Copy)]
 pub struct SlotPlan {
     pub first: u8,
     pub second: u8,
@@ -30,7 +30,7 @@ pub struct SlotPlan {
 }
 
 // A plan, or the reason why there is none: 10 for an argument, 9 if no plan is lawful.
-#[derive(Drop)]
+#[derive(Clone, Copy)]
 pub enum Planned {
     Slots(SlotPlan),
     Refused(Refusal),
@@ -171,7 +171,7 @@ fn third_follows(rule: Rule, duration: u32, second: u8, third: u8) -> bool
 }
 
 // The result of a search: the plan at an index of a list, or the length of the list if it is too short.
-#[derive(Drop)]
+#[derive(Clone, Copy)]
 enum Lookup {
     Found(SlotPlan),
     Counted(u64),
@@ -275,7 +275,7 @@ fn search_after(rule: Rule, duration: u32, first: u8, second: u8, k: u64) -> Loo
 }
 
 // Consecutive slots: how many, and the first.
-#[derive(Drop)]
+#[derive(Clone, Copy)]
 struct Run {
     first: u64,
     count: u64,

@@ -20,7 +20,7 @@ pub const MIN_ADDRESSED_LEN: usize = 13;
 pub const ADDRESSED: u8 = 0xA6;
 
 // The result of a check.
-#[derive(Drop)]
+#[derive(Clone, Copy)]
 pub enum Checked {
     Valid,
     Refused(Refusal),

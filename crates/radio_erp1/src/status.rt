@@ -2,7 +2,7 @@
 ghost use Rattle.std.specs.Prelude.{◌≡◌};
 ghost use Rattle.radio_erp1.specs.Status.{split_of, join_of, upper_of};
 
-#[derive(Drop)]
+#[derive(Clone, Copy)]
 pub struct Status {
     // Bits 0 to 3: how often the telegram was repeated.
     pub level: u8,

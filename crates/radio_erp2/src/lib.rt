@@ -515,7 +515,7 @@ fn payload_of(part: &[u8]) -> [u8; MAX_DATA]
     ensures { result ≡ padded 250 part.now }
 {
     let mut payload = [0u8; MAX_DATA];
-    bytes::copy(part, &mut payload);
+    base_bytes::copy(part, &mut payload);
     payload
 }
 
@@ -525,6 +525,6 @@ fn optional_of(part: &[u8]) -> [u8; MAX_OPTIONAL]
     ensures { result ≡ padded 15 part.now }
 {
     let mut optional = [0u8; MAX_OPTIONAL];
-    bytes::copy(part, &mut optional);
+    base_bytes::copy(part, &mut optional);
     optional
 }

@@ -9,7 +9,7 @@ pub const MAX_DATA: usize = 250;
 pub const MAX_OPTIONAL: usize = 15;
 
 // The header's three parts (004, figure 11).
-#[derive(Drop)]
+#[derive(Clone, Copy)]
 pub struct Header {
     // Address control: which IDs there are, and how many bits they have.
     pub control: u8,
@@ -20,7 +20,7 @@ pub struct Header {
 }
 
 // The extended header (004, figure 12), if there is one.
-#[derive(Drop)]
+#[derive(Clone, Copy)]
 pub struct Extension {
     pub present: bool,
     // Repeater count.
@@ -30,20 +30,20 @@ pub struct Extension {
 }
 
 // The extended telegram type (004, figure 13), if there is one.
-#[derive(Drop)]
+#[derive(Clone, Copy)]
 pub struct Subtype {
     pub present: bool,
     pub value: u8,
 }
 
 // The Destination-ID, if there is one.
-#[derive(Drop)]
+#[derive(Clone, Copy)]
 pub struct Destination {
     pub present: bool,
     pub id: u32,
 }
 
-#[derive(Drop)]
+#[derive(Clone, Copy)]
 pub struct Telegram {
     // The Length of a short form, 1 to 6; 0 for a long form.
     pub short: u8,
@@ -60,14 +60,14 @@ pub struct Telegram {
 }
 
 // The answer of reading; with a refusal the telegram is all zero.
-#[derive(Drop)]
+#[derive(Clone, Copy)]
 pub struct Reading {
     pub checked: Checked,
     pub telegram: Telegram,
 }
 
 // How many bytes each field except the data has; a field that is not present has none.
-#[derive(Drop)]
+#[derive(Clone, Copy)]
 pub struct Sizes {
     pub header: usize,
     pub extension: usize,

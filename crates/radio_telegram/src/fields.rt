@@ -17,7 +17,7 @@ pub const MAX_DATA: usize = 14;
 
 pub const MAX_ADDRESSED_DATA: usize = 9;
 
-#[derive(Drop)]
+#[derive(Clone, Copy)]
 pub struct Telegram {
     // RORG; for an addressed telegram the inner one.
     pub rorg: u8,
@@ -32,7 +32,7 @@ pub struct Telegram {
 }
 
 // The check's answer, and the fields; all zero if it is not valid.
-#[derive(Drop)]
+#[derive(Clone, Copy)]
 pub struct Reading {
     pub checked: Checked,
     pub telegram: Telegram,
@@ -127,7 +127,7 @@ fn payload_of(part: &[u8]) -> [u8; MAX_DATA]
     ensures { result ≡ padded max_data part.now }
 {
     let mut payload = [0u8; MAX_DATA];
-    bytes::copy(part, &mut payload);
+    base_bytes::copy(part, &mut payload);
     payload
 }
 
@@ -137,7 +137,7 @@ fn id_of(part: &[u8]) -> [u8; 4]
     ensures { result ≡ part.now }
 {
     let mut id = [0u8; 4];
-    bytes::copy(part, &mut id);
+    base_bytes::copy(part, &mut id);
     id
 }
 

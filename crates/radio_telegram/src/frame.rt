@@ -7,14 +7,14 @@ ghost use Rattle.radio_telegram.specs.Output.{result_of, put_of};
 
 use base_refusal::Refusal;
 
-#[derive(Drop)]
+#[derive(Clone, Copy)]
 pub struct Frame {
     pub len: usize,
     pub bytes: [u8; radio_erp1::MAX_LEN],
 }
 
 // The answer of writing a subtelegram into a lent output: its length, or why nothing was written.
-#[derive(Drop)]
+#[derive(Clone, Copy)]
 pub enum Built {
     Done(usize),
     Refused(Refusal),
@@ -52,7 +52,7 @@ impl Frame {
     {
         let at = self.len;
         let mut bytes = self.bytes;
-        let n = bytes::copy(src, &mut bytes[at..]);
+        let n = base_bytes::copy(src, &mut bytes[at..]);
         Frame {
             len: at + n,
             bytes: bytes,
@@ -81,6 +81,6 @@ pub(crate) fn emit(f: Frame, out: &mut [u8]) -> Built
     if out.len() < n {
         return Built::Refused(Refusal::ShortOutput);
     }
-    bytes::copy(&bytes[..n], out);
+    base_bytes::copy(&bytes[..n], out);
     Built::Done(n)
 }

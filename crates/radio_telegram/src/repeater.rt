@@ -15,7 +15,7 @@ use radio_erp1::{Checked, status};
 pub const MAX_SETTING: u8 = 2;
 
 // Whether a telegram was accepted, and what is sent for it: filled with zeros; length 0 if nothing is sent.
-#[derive(Drop)]
+#[derive(Clone, Copy)]
 pub struct Repeated {
     pub answer: Checked,
     pub sent: Frame,
@@ -86,7 +86,7 @@ fn put_raised(bytes: &[u8], out: &mut [u8])
 {
     let at = bytes.len() - 2;
     let last = at + 1;
-    bytes::copy(&bytes[0..at], out);
+    base_bytes::copy(&bytes[0..at], out);
     out[at] = raised_status(bytes[at]);
     out[last] = radio_erp1::hash(&out[0..last]);
 }

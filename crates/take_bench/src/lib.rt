@@ -7,7 +7,7 @@ use collector_state::{Collector, acceptable, merging};
 const CELL: usize = 32;
 
 // The state after the receptions of a run, and a number made of their answers.
-#[derive(Drop)]
+#[derive(Clone, Copy)]
 struct Run {
     collector: Collector,
     figure: u64,

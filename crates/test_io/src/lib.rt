@@ -4,7 +4,7 @@ ghost use Rattle.std.specs.Prelude.{◌<◌, ◌≤◌, ◌*◌, length};
 use libc::{STDIN_FILENO, STDOUT_FILENO};
 
 // A record: 64 bytes, a line of 128 upper-case hexadecimal digits in the input. `more` is false after the last one.
-#[derive(Drop)]
+#[derive(Clone, Copy)]
 pub struct Record {
     pub more: bool,
     pub bytes: [u8; 64],

@@ -11,7 +11,7 @@ use lib.ListN.{length, get_or, take, drop, replicate, length-drop, length-append
 use lib.Seq.{sets, get_or-append-add, ext_get_or, set-get_or}
 use Rattle.base_lists.specs.Lists.{padded}
 use Rattle.base_lists.proofs.Padded.{take-padded}
-use Rattle.bytes.specs.Bytes.{index_of}
+use Rattle.base_bytes.specs.Bytes.{index_of}
 use Rattle.collector_model.specs.Step.{StepOutcome, sent_for}
 use Rattle.base_buffers.specs.Printed.{Printed}
 use Rattle.text_lines.specs.Ascii.{newline}

@@ -8,7 +8,7 @@ use lib.Dec.{ltb}
 use lib.ListN.{length, take, drop, take-append-drop, length-append}
 use lib.Seq.{length-sets, length-take-le, take-append_seam, take-append-le}
 use borrow.Author.Tests.{ltb-true, ltb-false}
-use Rattle.bytes.specs.Bytes.{index_of, slice}
+use Rattle.base_bytes.specs.Bytes.{index_of, slice}
 use Rattle.base_lists.proofs.Tests.{by_test}
 use Rattle.radio_telegram.specs.Frame.{frame_of}
 use Rattle.radio_telegram.specs.Output.{Result, written}

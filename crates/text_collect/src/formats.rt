@@ -27,7 +27,7 @@ pub const LONGEST: usize = text_rows::LONGEST_NUMBER
 
 // The result of a run of lines: the summary of the state, how many bytes of the input were used, how many were written, and the numbers of rows for
 // an archive, of lines, and of telegrams that they close.
-#[derive(Drop)]
+#[derive(Clone, Copy)]
 pub struct Noted {
     pub summary: Summary,
     pub used: usize,

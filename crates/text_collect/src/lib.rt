@@ -21,7 +21,7 @@ use text_lines::Setting;
 use text_rows::Row;
 
 // The stage of a run: before its first line, after a right one, or ended by a wrong one.
-#[derive(Drop)]
+#[derive(Clone, Copy)]
 pub enum Stage {
     Starting,
     Running,
@@ -29,7 +29,7 @@ pub enum Stage {
 }
 
 // A run between two lines. Its setting and its collector are used only while it is running.
-#[derive(Drop)]
+#[derive(Clone, Copy)]
 pub struct Session {
     pub stage: Stage,
     pub setting: u8,
@@ -37,7 +37,7 @@ pub struct Session {
 }
 
 // The session after some lines, how many bytes of the input they are, and how many were written.
-#[derive(Drop)]
+#[derive(Clone, Copy)]
 pub struct Progress {
     pub session: Session,
     pub used: usize,
@@ -45,7 +45,7 @@ pub struct Progress {
 }
 
 // The result of a run of later lines: the summary of the state, how many bytes of the input were used, and how many were written.
-#[derive(Drop)]
+#[derive(Clone, Copy)]
 struct Merged {
     pub summary: Summary,
     pub used: usize,
@@ -53,7 +53,7 @@ struct Merged {
 }
 
 // The same with the number of rows for an archive, and of lines.
-#[derive(Drop)]
+#[derive(Clone, Copy)]
 pub struct Stored {
     pub summary: Summary,
     pub used: usize,
@@ -119,7 +119,7 @@ fn first_line(input: &[u8], out: &mut [u8]) -> Progress
     ensures { Ran starting input.now out.old out.new result }
 {
     let end = input.len();
-    let n = bytes::scan::find(input, 0, end, 10);
+    let n = base_bytes::find(input, 0, end, 10);
     if end <= n {
         return nothing(Session::start());
     }
@@ -455,7 +455,7 @@ fn skip_line(s: Session, input: &[u8]) -> Progress
     ensures { (out : List ℕ) → Ran over input.now out out result }
 {
     let end = input.len();
-    let n = bytes::scan::find(input, 0, end, 10);
+    let n = base_bytes::find(input, 0, end, 10);
     if end <= n {
         return nothing(s);
     }

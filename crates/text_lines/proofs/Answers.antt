@@ -5,7 +5,7 @@ use mathlib.Core.List.{List, []}
 use Prim.Native.Nat.{ℕ, ◌+◌, ◌≤◌, ◌<◌}
 use native.Mathlib.Omega.{arith}
 use lib.ListN.{length, take, length-append, length-replicate}
-use Rattle.bytes.specs.Bytes.{index_of}
+use Rattle.base_bytes.specs.Bytes.{index_of}
 use Rattle.base_lists.proofs.Padded.{take-padded}
 use Rattle.text_lines.specs.Ascii.{newline}
 use Rattle.text_lines.specs.Reading.{reception, bad, line_reading, front_of, line_of, bytes_in}

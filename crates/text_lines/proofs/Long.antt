@@ -9,7 +9,7 @@ use lib.Dec.{eqb, leb, ltb, lit<}
 use lib.ListN.{length, take, drop, length-drop}
 use lib.Seq.{length-take-le, take_all}
 use borrow.Author.Tests.{le-ltb, eqb-false, leb-true, ltb-true, ltb-false}
-use Rattle.bytes.specs.Bytes.{index_of}
+use Rattle.base_bytes.specs.Bytes.{index_of}
 use Rattle.base_lists.specs.Lists.{all, equal}
 use Rattle.text_lines.specs.Ascii.{space, digit0}
 use Rattle.text_lines.specs.Decimal.{is_digit, decimal_of, is_number, is_time}

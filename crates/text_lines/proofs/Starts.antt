@@ -9,7 +9,7 @@ use lib.Dec.{ltb}
 use lib.ListN.{length, take, drop, replicate, length-append}
 use lib.Seq.{split_at, take-length, take_at}
 use borrow.Author.Tests.{lt-ltb, le-ltb, ltb-true, ltb-false}
-use Rattle.bytes.specs.Bytes.{index_of, index_after, slice}
+use Rattle.base_bytes.specs.Bytes.{index_of, index_after, slice}
 use Rattle.text_lines.specs.Ascii.{newline, space}
 use Rattle.text_lines.specs.Decimal.{is_digit, decimal_of, is_time, timed_of}
 use Rattle.text_lines.specs.Hex.{nibble_of, is_hex_digit, is_hex, hex_bytes}

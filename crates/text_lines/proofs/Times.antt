@@ -10,7 +10,7 @@ use lib.Dec.{eqb, ltb, lit<}
 use lib.ListN.{length, get_or, take, drop, length-append}
 use lib.Seq.{drop-cons, length-take-le, get_or-take, take-append_seam}
 use borrow.Author.Tests.{lt-ltb, le-ltb, ne_eqb, eq-eqb, ltb-true}
-use Rattle.bytes.specs.Bytes.{index_of, index_after}
+use Rattle.base_bytes.specs.Bytes.{index_of, index_after}
 use Rattle.base_lists.proofs.Choice.{both, cond_no, cond_yes}
 use Rattle.text_lines.specs.Ascii.{space, digit0}
 use Rattle.text_lines.specs.Decimal.{decimal_of, has_leading_zero, is_number, is_time, number_if, appended, timed_of}

@@ -10,7 +10,7 @@ use lib.Dec.{eqb, ltb}
 use lib.ListN.{length, get_or, take, drop, length-append}
 use lib.Seq.{split_at, take-append_seam, drop-append-add}
 use borrow.Author.Tests.{eqb-true, ltb-true, lt-ltb, ne_eqb}
-use Rattle.bytes.specs.Bytes.{index_of, index_after}
+use Rattle.base_bytes.specs.Bytes.{index_of, index_after}
 use Rattle.base_lists.specs.Lists.{all}
 use Rattle.base_lists.proofs.Choice.{both, cond_yes}
 use Rattle.text_lines.specs.Ascii.{space}

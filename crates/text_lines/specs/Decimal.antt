@@ -1,6 +1,6 @@
 -- Decimal numbers (document 01, "Cases": a decimal 64-bit time without leading zeros).
 use Rattle.std.specs.Prelude.{ℕ, ◌+◌, ◌-◌, ◌*◌, ◌^◌, Bool, false, cond, not, ◌&&◌, List, [], ◌∷◌, eqb, ltb, length, take}
-use Rattle.bytes.specs.Bytes.{index_of}
+use Rattle.base_bytes.specs.Bytes.{index_of}
 use Rattle.base_lists.specs.Lists.{all}
 use Rattle.text_lines.specs.Ascii.{space, digit0, is_among}
 use Rattle.text_lines.specs.declared.Number.{Number}

@@ -1,6 +1,6 @@
 -- The contents of the lines that `collect` reads (document 01, "Cases").
 use Rattle.std.specs.Prelude.{ℕ, suc, ◌+◌, true, false, cond, ◌&&◌, List, [], ◌∷◌, ltb, length, take, drop, replicate}
-use Rattle.bytes.specs.Bytes.{index_of}
+use Rattle.base_bytes.specs.Bytes.{index_of}
 use Rattle.base_lists.specs.Lists.{equal, padded}
 use Rattle.text_lines.specs.Ascii.{newline, space, digit0}
 use Rattle.text_lines.specs.Decimal.{decimal_of, is_time}

@@ -6,7 +6,7 @@ ghost use Rattle.text_lines.specs.Hex.{max_bytes, nibble_of, Decoded};
 ghost use Rattle.text_lines.specs.Reading.{setting_of, front_of, bad_front, line_of, bytes_in};
 
 // The content of the first line.
-#[derive(Drop)]
+#[derive(Clone, Copy)]
 pub enum Setting {
     Level(u8),
     Bad,
@@ -14,7 +14,7 @@ pub enum Setting {
 
 // The content of the line at the start of a text: a time and the first `len` of the lent bytes; it has `used` characters with its newline. If it is
 // BAD, all but `used` is zero; if no newline ends it, `used` too.
-#[derive(Drop)]
+#[derive(Clone, Copy)]
 pub struct Line {
     pub ok: bool,
     pub time: u64,
@@ -31,14 +31,14 @@ const MAX_DIGITS: usize = 2 * MAX_BYTES;
 pub const LINE_LIMIT: usize = 150;
 
 // The value of digits.
-#[derive(Drop)]
+#[derive(Clone, Copy)]
 enum Number {
     Value(u64),
     Bad,
 }
 
 // The time at the start of a text, and how many digits it has.
-#[derive(Drop)]
+#[derive(Clone, Copy)]
 enum Timed {
     At(u64, usize),
     Bad,
@@ -48,13 +48,13 @@ enum Timed {
 pub fn parse_setting(line: &[u8]) -> Setting
     ensures { result ≡ setting_of line.now }
 {
-    if check::same(line, b"level 0") {
+    if base_bytes::same(line, b"level 0") {
         return Setting::Level(0);
     }
-    if check::same(line, b"level 1") {
+    if base_bytes::same(line, b"level 1") {
         return Setting::Level(1);
     }
-    if check::same(line, b"level 2") {
+    if base_bytes::same(line, b"level 2") {
         return Setting::Level(2);
     }
     Setting::Bad
@@ -92,7 +92,7 @@ fn bad_line(text: &[u8], bytes: &mut [u8; MAX_BYTES]) -> Line
 {
     *bytes = [0u8; MAX_BYTES];
     let end = text.len();
-    let n = bytes::scan::find(text, 0, end, 10);
+    let n = base_bytes::find(text, 0, end, 10);
     if end <= n {
         return Line {
             ok: false,

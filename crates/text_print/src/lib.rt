@@ -25,7 +25,7 @@ pub const CAPACITY: usize = 15 * CHUNK + 512;
 
 // The session after a chunk, how much of a line that has not ended is kept at the front of the buffer, how much was written, and whether the run has
 // ended.
-#[derive(Drop)]
+#[derive(Clone, Copy)]
 pub struct Turn {
     pub session: Session,
     pub kept: usize,
@@ -34,7 +34,7 @@ pub struct Turn {
 }
 
 // The session after whole lines, how many characters they are, and how many were written.
-#[derive(Drop)]
+#[derive(Clone, Copy)]
 pub(crate) struct Drain {
     pub session: Session,
     pub used: usize,
@@ -42,7 +42,7 @@ pub(crate) struct Drain {
 }
 
 // Whether the text of an input fits, and how long it is.
-#[derive(Drop)]
+#[derive(Clone, Copy)]
 pub(crate) struct Pass {
     pub fits: bool,
     pub written: usize,
@@ -159,7 +159,7 @@ fn finish(s: Session, line: &[u8], out: &mut [u8]) -> usize
         return s.put_end(out, 0);
     }
     let mut whole = [0u8; text_lines::LINE_LIMIT + 1];
-    bytes::copy(line, &mut whole);
+    base_bytes::copy(line, &mut whole);
     whole[n] = 10;
     let end = n + 1;
     let p = s.lines(&whole[0..end], out);
@@ -225,7 +225,7 @@ fn read_some(input: &[u8], at: usize, buffer: &mut [u8], kept: usize) -> usize
 {
     let n = least(input.len() - at, CHUNK - kept);
     let end = at + n;
-    bytes::copy(&input[at..end], &mut buffer[kept..]);
+    base_bytes::copy(&input[at..end], &mut buffer[kept..]);
     n
 }
 
@@ -237,5 +237,5 @@ fn write_some(write: bool, text: &[u8], n: usize, out: &mut [u8], to: usize)
     if !write {
         return;
     }
-    bytes::copy(&text[0..n], &mut out[to..]);
+    base_bytes::copy(&text[0..n], &mut out[to..]);
 }

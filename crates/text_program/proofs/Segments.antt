@@ -7,7 +7,7 @@ use native.Mathlib.Omega.{arith}
 use lib.Dec.{eqb}
 use lib.ListN.{length, get_or, take, drop, take-append-drop}
 use lib.Seq.{take-nil, take_all, take-add, take-suc}
-use Rattle.bytes.specs.Bytes.{index_of, index_after}
+use Rattle.base_bytes.specs.Bytes.{index_of, index_after}
 use Rattle.text_lines.specs.Ascii.{newline}
 use Rattle.text_lines.proofs.Whole.{found_at}
 use Rattle.text_program.specs.Lines.{Program}

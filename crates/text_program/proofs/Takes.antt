@@ -5,7 +5,7 @@ use Prim.Native.Nat.{ℕ, ◌+◌, ◌-◌, ◌<◌, ◌≤◌}
 use native.Mathlib.Omega.{arith}
 use lib.ListN.{length, take, drop, length-drop}
 use lib.Seq.{take-length}
-use Rattle.bytes.specs.Bytes.{index_of, slice}
+use Rattle.base_bytes.specs.Bytes.{index_of, slice}
 use Rattle.text_lines.specs.Ascii.{newline}
 use Rattle.text_lines.specs.Reading.{line_limit}
 use Rattle.base_buffers.specs.Printed.{Printed}

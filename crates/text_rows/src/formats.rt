@@ -9,7 +9,7 @@ ghost use Rattle.text_rows.specs.Formats.{longest_row_in, longest_bad_in, longes
 
 use crate::Row;
 
-#[derive(Drop)]
+#[derive(Clone, Copy)]
 pub enum Format {
     // As `collect` prints.
     Text,
@@ -20,7 +20,7 @@ pub enum Format {
 }
 
 // Where a telegram came from: TXID, RORG (the inner one of an addressed telegram) and the level, if they are known.
-#[derive(Drop)]
+#[derive(Clone, Copy)]
 pub struct Source {
     pub known: bool,
     pub txid: [u8; 4],

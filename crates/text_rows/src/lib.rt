@@ -10,7 +10,7 @@ ghost use Rattle.text_rows.specs.Longest.{longest_number, longest_answer, longes
 ghost use Rattle.text_rows.specs.Private.{DigitsOf};
 
 // The answer in the row of a reception; a refusal has its number.
-#[derive(Drop)]
+#[derive(Clone, Copy)]
 pub enum Row {
     Kept,
     Copy,

@@ -5,7 +5,7 @@ use Prim.Native.Nat.{◌-◌}
 use lib.ListN.{length}
 use borrow.Author.Rules.{rules}
 use borrow.Author.Tests.{lt-ltb, le-ltb}
-use Rattle.bytes.specs.Bytes.{index_of}
+use Rattle.base_bytes.specs.Bytes.{index_of}
 use Rattle.text_lines.specs.Ascii.{newline}
 use Rattle.text_program.proofs.Takes.{found}
 use Rattle.c_lines.proofs.first_line.Statement.{statement}

@@ -9,7 +9,7 @@ use borrow.Author.Rules.{rules}
 use borrow.Author.Tests.{not-true, not-false}
 use lib.ListN.{length, take, drop, length-take, length-drop}
 use lib.Seq.{length-take-le}
-use Rattle.bytes.specs.Bytes.{index_of}
+use Rattle.base_bytes.specs.Bytes.{index_of}
 use Rattle.collector_model.specs.View.{View}
 use Rattle.collector_model.specs.Step.{StepOutcome}
 use Rattle.collector_state.specs.Collector.{columns, view_in}

@@ -1,0 +1,39 @@
+// Bytes in lent slices: copied, searched, compared.
+#![tactic(auto)]
+
+ghost use Rattle.std.specs.Prelude.{◌≡◌, true, ◌+◌, ◌≤◌, ◌++◌, length, take, drop};
+ghost use Rattle.base_bytes.specs.Bytes.{index_of, slice};
+
+// Copies all of `src` to the front of `out`, and says how many bytes these are. The bytes after them stay.
+pub fn copy(src: &[u8], out: &mut [u8]) -> usize
+    requires { length src.now ≤ length out.old }
+    ensures { (result ≡ length src.now)
+        × (out.new ≡ take (length src.now) src.now ++ drop (length src.now) out.old) }
+{
+    let n = src.len();
+    let front = &mut out[..n];
+    front.copy_from_slice(src);
+    n
+}
+
+// The index of the first `byte` in `text` from `from` on and before `to`; `to` if there is none.
+pub fn find(text: &[u8], from: usize, to: usize, byte: u8) -> usize
+    requires { (from ≤ to) × (to ≤ length text.now) }
+    ensures { (result ≡ from + index_of byte (slice from to text.now)) × (result ≤ to) }
+{
+    let mut at = from;
+    while at < to {
+        if text[at] == byte {
+            return at;
+        }
+        at += 1;
+    }
+    at
+}
+
+// Whether two slices have the same bytes.
+pub fn same(a: &[u8], b: &[u8]) -> bool
+    ensures { (result ≡ true → a.now ≡ b.now) × (a.now ≡ b.now → result ≡ true) }
+{
+    a == b
+}
