@@ -315,7 +315,7 @@ fn read_entries(
         (columns times.new lens.new bytes.new copies.new) }
 {
     for i in 0..count {
-        let cell = cell_in_lem(image, i);
+        let cell = cell_in(image, i);
         times[i] = block_layout::cell_time(cell);
         lens[i] = block_layout::cell_used(cell);
         copies[i] = block_layout::cell_last(cell);
@@ -385,21 +385,21 @@ fn header_in(image: &[u8], k: usize) -> &[u8]
     requires { (length image.now ≡ image_length) × (k < block_count) }
     ensures { result.now ≡ block_header (block_in k image.now) }
 {
-    let block = block_in_lem(image, k);
+    let block = block_in(image, k);
     &block[0..HEADER_LENGTH]
 }
 
 // The cell of entry `i`, counted over all blocks.
-fn cell_in_lem(image: &[u8], i: usize) -> &[u8]
+fn cell_in(image: &[u8], i: usize) -> &[u8]
     requires { (length image.now ≡ image_length) × (i < capacity) }
     ensures { result.now ≡ cell_in image.now i }
 {
-    let block = block_in_lem(image, i / CELLS_PER_BLOCK);
+    let block = block_in(image, i / CELLS_PER_BLOCK);
     let at = HEADER_LENGTH + CELL_LENGTH * (i % CELLS_PER_BLOCK);
     &block[at..at + CELL_LENGTH]
 }
 
-fn block_in_lem(image: &[u8], k: usize) -> &[u8]
+fn block_in(image: &[u8], k: usize) -> &[u8]
     requires { (length image.now ≡ image_length) × (k < block_count) }
     ensures { result.now ≡ block_in k image.now }
 {

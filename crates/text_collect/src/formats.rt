@@ -82,7 +82,7 @@ pub fn take_rows_as<'a>(
         if moments.len() <= n {
             break;
         }
-        if !has_room_lem(closed.len(), k) {
+        if !has_room(closed.len(), k) {
             break;
         }
         let l = text_lines::parse(&input[at..], &mut bytes);
@@ -146,7 +146,7 @@ pub fn take_rows_as<'a>(
 }
 
 // Whether there is room for what one more line may close, after k entries.
-fn has_room_lem(long: usize, k: usize) -> bool
+fn has_room(long: usize, k: usize) -> bool
     ensures { result ≡ has_room long k }
 {
     if long == 0 {

@@ -136,12 +136,12 @@ fn are_digits(text: &[u8], from: usize) -> bool
 {
     let mut all = true;
     for k in 0..8 {
-        all = all & is_digit_lem(text[from + k]);
+        all = all & is_digit(text[from + k]);
     }
     all
 }
 
-fn is_digit_lem(c: u8) -> bool
+fn is_digit(c: u8) -> bool
     ensures { result ≡ is_digit c }
 {
     (48 <= c) & (c < 58)

@@ -3,8 +3,8 @@ use Prim.Native.Nat.{◌*◌}
 use borrow.Author.Rules.{rules}
 use Rattle.block_layout.specs.Block.{block_length}
 use Rattle.base_buffers.proofs.Segments.{part-ends}
-use Rattle.collector_checkpoint.proofs.block_in_lem.Statement.{statement}
-use Rattle.collector_checkpoint.proofs.block_in_lem.Tie as tie
+use Rattle.collector_checkpoint.proofs.block_in.Statement.{statement}
+use Rattle.collector_checkpoint.proofs.block_in.Tie as tie
 
 pub block_in_spec : {M : Type 1} → statement M
 block_in_spec =

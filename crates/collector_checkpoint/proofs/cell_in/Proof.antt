@@ -8,14 +8,14 @@ use Rattle.block_layout.specs.Cell.{cell_length}
 use Rattle.block_layout.specs.Block.{header_length, cells_per_block, block_length, block_cell}
 use Rattle.base_buffers.proofs.Segments.{part-ends}
 use Rattle.collector_checkpoint.proofs.Reading.{block-long}
-use Rattle.collector_checkpoint.proofs.cell_in_lem.Statement.{statement}
-use Rattle.collector_checkpoint.proofs.cell_in_lem.Tie as tie
+use Rattle.collector_checkpoint.proofs.cell_in.Statement.{statement}
+use Rattle.collector_checkpoint.proofs.cell_in.Tie as tie
 
 part-result_end : tie.Need-slice-bounds-result-end
 part-result_end c =
     let s = c.before.before in
-    let long : length c.block_in_lem.result.now ≡ block_length =
-    ap length c.block_in_lem.ensures
+    let long : length c.block_in.result.now ≡ block_length =
+    ap length c.block_in.ensures
     ∙ block-long s.args.image.now (s.args.i / cells_per_block) s.requires.0 (omega arith) in
     omega arith
 
@@ -31,4 +31,4 @@ cell_in_spec =
     (λ c. search rules)
     part-result_end
     (λ c. part-ends (header_length + cell_length * (c.before.before.before.args.i % cells_per_block)) cell_length _
-    ∙ ap (block_cell (c.before.before.before.args.i % cells_per_block)) c.before.block_in_lem.ensures))
+    ∙ ap (block_cell (c.before.before.before.args.i % cells_per_block)) c.before.block_in.ensures))

@@ -11,11 +11,11 @@ use Rattle.collector_checkpoint.proofs.header_in.Tie as tie
 part-result_end : tie.Need-slice-bounds-result-end
 part-result_end c =
     let s = c.before.before in
-    let long : length c.block_in_lem.result.now ≡ block_length =
-    ap length c.block_in_lem.ensures ∙ block-long s.args.image.now s.args.k s.requires.0 (omega arith) in
+    let long : length c.block_in.result.now ≡ block_length =
+    ap length c.block_in.ensures ∙ block-long s.args.image.now s.args.k s.requires.0 (omega arith) in
     omega arith
 
 pub header_in_spec : {M : Type 1} → statement M
 header_in_spec =
     tie.close (tie.spec (λ c κs. search rules) (λ c. search rules)
-    (λ c. search rules) part-result_end (λ c. ap block_header c.before.block_in_lem.ensures))
+    (λ c. search rules) part-result_end (λ c. ap block_header c.before.block_in.ensures))

@@ -39,7 +39,7 @@ loop_again c =
     let shown = used.before.before in
     let at = shown.before.before in
     let s = start at.before in
-    let cell = shown.cell_in_lem.ensures in
+    let cell = shown.cell_in.ensures in
     reading-more _ _ s.pre.4 s.pre.5 _ at.loop.i _ at.loop.invariant _ _ _ _
     (used.before.cell-time.ensures ∙ ap cell_time cell)
     (used.cell-used.ensures ∙ ap cell_used cell) (last.cell-last.ensures ∙ ap cell_last cell)

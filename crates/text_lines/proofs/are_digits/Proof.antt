@@ -32,7 +32,7 @@ loop_again c =
       few = omega arith;
       digits = λ e.
           let w = both _ _ e in
-          below_more _ _ (l.invariant.digits w.0) (sym c.is_digit_lem.ensures ∙ w.1);
+          below_more _ _ (l.invariant.digits w.0) (sym c.is_digit.ensures ∙ w.1);
     }
 
 returns : tie.Need-returns invariant_loop decreases_loop

@@ -2,8 +2,8 @@
 use native.Mathlib.Omega.{arith}
 use borrow.Author.Tests.{eq-eqb, ne_eqb, le-leb, lt-leb}
 use Prim.Native.Nat.{◌+◌, ◌*◌}
-use Rattle.text_collect.proofs.formats.has_room_lem.Statement.{statement}
-use Rattle.text_collect.proofs.formats.has_room_lem.Tie as tie
+use Rattle.text_collect.proofs.formats.has_room.Statement.{statement}
+use Rattle.text_collect.proofs.formats.has_room.Tie as tie
 
 returns : tie.Need-returns
 returns c = rw (eq-eqb c.before.args.long 0 c.if1.true)

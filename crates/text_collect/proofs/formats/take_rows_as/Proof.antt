@@ -101,7 +101,7 @@ some p = (free p).before.if1.false
 
 -- what it closes fits
 fitting : (p : tie.After-parse invariant_loop decreases_loop) → has_room (length (turn p).loop.closed) (turn p).loop.k ≡ true
-fitting p = sym (roomy p).before.has_room_lem.ensures ∙ not-false _ (roomy p).if3.false
+fitting p = sym (roomy p).before.has_room.ensures ∙ not-false _ (roomy p).if3.false
 
 answer : (p : tie.After-parse invariant_loop decreases_loop)
     → (p.parse.result ≡ line_of (front_of (drop (turn p).loop.at (input (turn p)))))
