@@ -1,4 +1,6 @@
 // A cut keeps the first rows of an archive: of the whole archive in its buffer, or of one block.
+#![tactic(auto)]
+
 ghost use Rattle.std.specs.Prelude.{◌≡◌, true, ◌≤◌, ◌<◌, length, take};
 ghost use Rattle.block_layout.specs.Block.{cells_per_block, block_length};
 ghost use Rattle.archive_model.specs.Row.{row_count, is_sound};

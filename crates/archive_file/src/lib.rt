@@ -1,4 +1,6 @@
 // Archive block files (document 02, A2): opens an archive, appends a row, reads a row. Every public function returns for buffers of any length.
+#![tactic(auto)]
+
 ghost use Rattle.std.specs.Prelude.{◌≡◌, true, ◌&&◌, List, ℕ, ◌+◌, ◌-◌, ◌*◌, ◌/◌, ◌≤◌, ◌<◌, eqb, length};
 ghost use Rattle.base_lists.specs.Lists.{all};
 ghost use Rattle.block_layout.specs.Cell.{cell_length, cell_capacity, cell_last};

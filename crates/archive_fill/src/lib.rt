@@ -1,4 +1,6 @@
 // Puts several rows into their block at once: first each cell, then header and CRC once for all of them.
+#![tactic(auto)]
+
 ghost use Rattle.std.specs.Prelude.{◌≡◌, true, ◌*◌, length};
 ghost use mathlib.Core.List.{map, flatten};
 ghost use Rattle.base_lists.specs.Lists.{all};

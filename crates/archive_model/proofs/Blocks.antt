@@ -4,7 +4,7 @@
 --     written-length, written-number, written_count, written-cell     what stands in a block whose rows are short enough
 --     rows_back       and the rows of a block from the block
 --     block-sound     which is sound, and says its number
-use Prim.Native.Nat.{ℕ, suc, ◌+◌, ◌-◌, ◌^◌, ◌≤◌, ◌<◌}
+use Prim.Native.Nat.{ℕ, suc, ◌+◌, ◌^◌, ◌≤◌, ◌<◌}
 use native.Mathlib.Nat.{zero-add}
 use native.Mathlib.Omega.{arith}
 use mathlib.Core.Path.{◌≡◌, refl, sym, ap, ap₂, ◌∙◌}

@@ -1,5 +1,5 @@
 -- The transmitter of a valid row is its TXID.
-use Prim.Native.Nat.{ℕ, ◌-◌, ◌≤◌}
+use Prim.Native.Nat.{ℕ, ◌-◌}
 use native.Mathlib.Omega.{arith}
 use mathlib.Core.Path.{◌≡◌, refl, sym, ap, ◌∙◌}
 use mathlib.Core.Bool.{Bool, true, false, cond}
@@ -9,9 +9,7 @@ use borrow.Author.Tests.{eqb-true}
 use Rattle.radio_erp1.specs.Subtelegram.{is_addressed, check_of}
 use Rattle.radio_erp1.proofs.Checks.{check_facts}
 use Rattle.block_layout.specs.BigEndian.{unbe}
-use Rattle.radio_telegram.specs.declared.fields.Telegram.{Telegram}
 use Rattle.radio_telegram.specs.Fields.{fields_of, plain_fields, addressed_fields}
-use Rattle.archive_model.specs.Row.{Row}
 use Rattle.archive_model.specs.Identity.{Transmitter}
 
 -- in both forms TXID stands before STATUS and HASH

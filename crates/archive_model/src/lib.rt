@@ -1,1 +1,2 @@
 // Archive block files: definitions and theorems, no code.
+#![tactic(auto)]

@@ -5,21 +5,20 @@ use Prim.Native.Nat.{ℕ, zero, suc, ◌+◌, ◌-◌, ◌*◌, ◌/◌, ◌≤�
 use native.Mathlib.Nat.{zero-add}
 use native.Mathlib.Omega.{arith}
 use mathlib.Core.Path.{◌≡◌, refl, sym, ap, ap₂, ◌∙◌}
-use mathlib.Core.Bool.{Bool, true, false, cond, not, ◌&&◌, ◌||◌}
+use mathlib.Core.Bool.{Bool, true, false, cond, not, ◌||◌}
 use mathlib.Core.List.{List, [], ◌∷◌, ◌++◌, map}
-use lib.Dec.{ltb, leb, eqb}
+use lib.Dec.{ltb, eqb}
 use lib.ListN.{length, get_or, replicate, length-append}
 use borrow.Author.Tests.{eqb-true, eqb-false, ltb-false, le-ltb, lt-leb}
 use Rattle.base_lists.specs.Lists.{keep, any, count, up_from}
-use Rattle.base_lists.proofs.Choice.{both}
-use Rattle.base_lists.proofs.Tests.{by_test, keep-keep, length-keep}
+use Rattle.base_lists.proofs.Tests.{keep-keep, length-keep}
 use Rattle.base_lists.proofs.Keep.{keep_same}
 use Rattle.base_refusal.specs.Number.{number_of}
 use Rattle.base_refusal.specs.declared.Refusal.TheVariants.{Argument}
 use Rattle.block_layout.specs.Block.{cells_per_block, block_length}
-use Rattle.archive_model.specs.Row.{Row, rows_block, is_row, is_blank}
+use Rattle.archive_model.specs.Row.{Row, rows_block, is_blank}
 use Rattle.archive_model.specs.Buffer.{blocks_for, rows_at, blocks_in, rows_in, buffer_of}
-use Rattle.archive_model.specs.Append.{Verdict, verdict, append_of, block_at}
+use Rattle.archive_model.specs.Append.{verdict, append_of, block_at}
 use Rattle.archive_model.proofs.Blocks.{Fit, Fits, no_row, rows-block-length, count-back}
 use Rattle.archive_model.proofs.Buffers.{blank, blank_blank, group_fits, group_few, group_length, buffer-length, rows_in_lem, blocks-back, free_block, not_blank}
 use Rattle.archive_model.proofs.Cursor.{blocks_of, is_exact, rows_fit, rows_few, written-verdict}

@@ -7,20 +7,20 @@ use Prim.Native.Nat.{ℕ, zero, suc, ◌+◌, ◌-◌, ◌*◌, ◌/◌, ◌%◌
 use native.Mathlib.Nat.{zero-add, add-zero}
 use native.Mathlib.Omega.{arith}
 use mathlib.Core.Path.{◌≡◌, refl, sym, ap, ap₂, ◌∙◌}
-use mathlib.Core.Bool.{Bool, true, false, cond, not, ◌&&◌, ◌||◌}
+use mathlib.Core.Bool.{Bool, true, false, not, ◌&&◌, ◌||◌}
 use mathlib.Core.List.{List, [], ◌∷◌, ◌++◌, map, flatten, append-nil}
-use lib.Dec.{ltb, leb, eqb}
+use lib.Dec.{ltb, eqb}
 use lib.ListN.{length, take, drop, length-append, length-take, length-drop}
 use lib.Seq.{take_at}
-use borrow.Author.Tests.{eq-eqb, ne_eqb, eqb-true, lt-ltb, ltb-true, ltb-false, le-ltb, le-leb, leb-true}
+use borrow.Author.Tests.{eq-eqb, ne_eqb, eqb-true, lt-ltb, ltb-true, le-ltb, le-leb, leb-true}
 use Rattle.base_lists.specs.Lists.{padded, keep, up_from}
-use Rattle.base_lists.proofs.Choice.{both, neither}
+use Rattle.base_lists.proofs.Choice.{both}
 use Rattle.base_lists.proofs.Tests.{by_test, and-true, length-keep}
 use Rattle.base_lists.proofs.Keep.{keep_append, keep-map}
 use Rattle.base_lists.proofs.UpFrom.{up_from_add, map_shift}
 use Rattle.base_refusal.specs.Number.{number_of}
 use Rattle.base_refusal.specs.declared.Refusal.{Refusal}
-use Rattle.base_refusal.specs.declared.Refusal.TheVariants.{ShortOutput, Argument, NotAccepted, Size}
+use Rattle.base_refusal.specs.declared.Refusal.TheVariants.{ShortOutput, Argument, Size}
 use Rattle.base_refusal.proofs.Numbers.{refused-number}
 use Rattle.base_buffers.specs.Buffer.{part}
 use Rattle.base_buffers.proofs.Buffer.{padded-length}
@@ -31,8 +31,8 @@ use Rattle.archive_model.specs.Row.{Row}
 use Rattle.archive_model.specs.Buffer.{max_rows, blocks_in}
 use Rattle.archive_model.specs.Append.{block_at}
 use Rattle.archive_repack_model.specs.Repack.{sound_rows, is_dropped, dropped, fronted, max_identities, is_listed, others}
-use Rattle.archive_repack_model.specs.Packer.{Packing, start_packing, full_length, cells_block, full_blocks, pushed_blocks, pushed, waiting_block, kept_cells, pending_length, packing, has_blocks, is_packing, Packed, kept_as, packed_as, pack_of, finish_of, PackCall, PackRun, start_pack_run, ran, pack_all, finish_run}
-use Rattle.archive_repack_model.specs.Claims.{PackedWhole, PiecesPacked}
+use Rattle.archive_repack_model.specs.Packer.{Packing, start_packing, full_length, cells_block, full_blocks, pushed_blocks, pushed, waiting_block, kept_cells, pending_length, packing, has_blocks, is_packing, Packed, kept_as, packed_as, pack_of, finish_of, PackCall, PackRun, start_pack_run, ran, pack_all}
+use Rattle.archive_repack_model.specs.Claims.{PiecesPacked}
 use Rattle.archive_repack_model.proofs.Rows.{map-id, sound_rows-fit, sound_rows_few}
 use Rattle.archive_repack_model.proofs.Packing.{push_waits, blocks_append, push_append, cells-block-length, cells-length, push_none}
 use Rattle.archive_repack_model.proofs.Removal.{fits-keep}

@@ -1,20 +1,19 @@
 -- The claims on salvage.
 --     Done, done              what the number 0 says
 --     kept, intact, salvaged-again, untouched     the claims; `accounted` stands in Rows
-use Prim.Native.Nat.{ℕ, ◌+◌, ◌-◌, ◌*◌, ◌/◌, ◌%◌, ◌≤◌, ◌<◌}
+use Prim.Native.Nat.{ℕ, ◌*◌, ◌/◌, ◌%◌, ◌≤◌, ◌<◌}
 use native.Mathlib.Omega.{arith}
 use mathlib.Core.Path.{◌≡◌, refl, sym, ap, ap₂, ◌∙◌}
-use mathlib.Core.Bool.{Bool, true, false, cond, not, ◌&&◌, ◌||◌}
-use mathlib.Core.List.{List, [], ◌∷◌, ◌++◌}
-use lib.Dec.{ltb, leb, eqb}
+use mathlib.Core.Bool.{Bool, true, false}
+use mathlib.Core.List.{List, ◌++◌}
+use lib.Dec.{ltb, eqb}
 use lib.ListN.{length, take, drop, length-append, length-drop}
 use lib.Seq.{take_at, drop_at}
 use borrow.Author.Tests.{eqb-true, leb-true, ltb-false, le-ltb}
-use Rattle.base_lists.proofs.Choice.{both, neither}
+use Rattle.base_lists.proofs.Choice.{both}
 use Rattle.base_refusal.specs.Number.{number_of}
 use Rattle.base_refusal.specs.declared.Refusal.TheVariants.{ShortOutput, Size}
-use Rattle.block_layout.specs.Block.{cells_per_block, block_length}
-use Rattle.archive_model.specs.Row.{Row}
+use Rattle.block_layout.specs.Block.{block_length}
 use Rattle.archive_model.specs.Buffer.{max_blocks, is_whole, rows_in, buffer_of}
 use Rattle.archive_model.specs.Append.{verdict}
 use Rattle.archive_model.proofs.Buffers.{buffer-length, rows_in_lem}

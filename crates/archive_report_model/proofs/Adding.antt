@@ -21,7 +21,7 @@ use Rattle.base_refusal.specs.declared.Refusal.TheVariants.{NotAccepted, Size}
 use Rattle.base_refusal.proofs.Numbers.{refused-number}
 use Rattle.block_layout.specs.Block.{cells_per_block, block_length}
 use Rattle.archive_model.specs.Row.{Row, row_count, rows_of, is_row, is_sound}
-use Rattle.archive_model.specs.Buffer.{max_blocks, is_whole, blocks_in, Scan, scan_block}
+use Rattle.archive_model.specs.Buffer.{max_blocks, is_whole, blocks_in, scan_block}
 use Rattle.archive_model.specs.Append.{is_scan}
 use Rattle.archive_model.proofs.Pieces.{blocks-count, pieces_blocks, rows-count}
 use Rattle.archive_model.proofs.Scans.{rows_after, blocks_after, scanned_next}

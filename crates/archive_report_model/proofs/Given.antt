@@ -5,24 +5,24 @@
 use Prim.Native.Nat.{ℕ, zero, suc, ◌+◌, ◌-◌, ◌*◌, ◌≤◌, ◌<◌, ◌^◌}
 use native.Mathlib.Decide.{dec_lt}
 use native.Mathlib.Omega.{arith}
-use mathlib.Core.Path.{◌≡◌, refl, sym, ap, ap₂, subst, ◌∙◌}
+use mathlib.Core.Path.{◌≡◌, refl, sym, ap, subst, ◌∙◌}
 use mathlib.Core.Bool.{Bool, true, false, cond, ◌&&◌}
 use mathlib.Core.List.{List, [], ◌∷◌, ◌++◌}
-use lib.Dec.{ltb, leb, eqb}
-use lib.ListN.{length, get_or, replicate, length-replicate}
-use borrow.Author.Tests.{leb-true, ltb-true, lt-ltb, le-ltb, eq-eqb, eqb-true, ne_eqb}
+use lib.Dec.{ltb, eqb}
+use lib.ListN.{length, replicate, length-replicate}
+use borrow.Author.Tests.{leb-true, ltb-true, lt-ltb, eq-eqb, eqb-true, ne_eqb}
 use Rattle.base_lists.specs.Lists.{all}
 use Rattle.base_lists.proofs.Choice.{both}
-use Rattle.base_lists.proofs.Tests.{and-true, by_test, all_append}
+use Rattle.base_lists.proofs.Tests.{and-true, all_append}
 use Rattle.radio_erp1.specs.Subtelegram.{check_of, hash_of}
 use Rattle.block_layout.specs.Block.{cells_per_block, block_length}
 use Rattle.archive_model.specs.Row.{Row, rows_block, block_number, row_count, is_row, is_sound, is_blank}
-use Rattle.archive_model.specs.Buffer.{max_blocks, is_short, Stage, Filling, Short, Ended, Wrong, Scan, start_scan, stage_after, stage_blank, scan_block, scan_blocks}
+use Rattle.archive_model.specs.Buffer.{max_blocks, Stage, Filling, Short, Ended, Wrong, Scan, start_scan, stage_after, stage_blank, scan_block, scan_blocks}
 use Rattle.archive_model.specs.Append.{is_stage, is_scan}
-use Rattle.archive_model.proofs.Blocks.{Fit, Fits, no_row, rows-block-length, number-back, count-back, block_sound}
+use Rattle.archive_model.proofs.Blocks.{Fits, rows-block-length, number-back, count-back, block_sound}
 use Rattle.archive_model.proofs.Buffers.{not_blank}
 use Rattle.archive_model.proofs.Pieces.{scan_append}
-use Rattle.archive_model.proofs.Scans.{scan_facts, sound_rows}
+use Rattle.archive_model.proofs.Scans.{scan_facts}
 use Rattle.base_numbers.specs.Bytes.{are_bytes}
 use Rattle.archive_report_model.proofs.Bytes.{all_repeated}
 use Rattle.archive_report_model.proofs.Written.{is_plain, block-bytes}

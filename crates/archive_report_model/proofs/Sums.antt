@@ -131,7 +131,7 @@ module _ (r : Row) (rows : List Row) (e : ℕ) where
       elim (dec_lt r.time e) [
         | yes k ↦
             let m : min r.time e ≡ r.time = omega arith in
-            rw m (and-true first
+            subst (λ (x : ℕ). is_least x (r ∷ rows) ≡ true) (sym m) (and-true first
             (and-true (le-leb r.time r.time (omega arith))
             (all_of (λ (s : Row). leb r.time s.time) rows
             (λ s n.
@@ -139,7 +139,7 @@ module _ (r : Row) (rows : List Row) (e : ℕ) where
             le-leb r.time s.time (omega arith)))))
         | no k ↦
             let m : min r.time e ≡ e = omega arith in
-            rw m (and-true (later w.0) (and-true (le-leb e r.time (omega arith)) w.1))
+            subst (λ (x : ℕ). is_least x (r ∷ rows) ≡ true) (sym m) (and-true (later w.0) (and-true (le-leb e r.time (omega arith)) w.1))
       ]
 
   pub greatest_more : is_greatest e rows ≡ true → is_greatest (max r.time e) (r ∷ rows) ≡ true
@@ -148,7 +148,7 @@ module _ (r : Row) (rows : List Row) (e : ℕ) where
       elim (dec_lt e r.time) [
         | yes k ↦
             let m : max r.time e ≡ r.time = omega arith in
-            rw m (and-true first
+            subst (λ (x : ℕ). is_greatest x (r ∷ rows) ≡ true) (sym m) (and-true first
             (and-true (le-leb r.time r.time (omega arith))
             (all_of (λ (s : Row). leb s.time r.time) rows
             (λ s n.
@@ -156,7 +156,7 @@ module _ (r : Row) (rows : List Row) (e : ℕ) where
             le-leb s.time r.time (omega arith)))))
         | no k ↦
             let m : max r.time e ≡ e = omega arith in
-            rw m (and-true (later w.0) (and-true (le-leb r.time e (omega arith)) w.1))
+            subst (λ (x : ℕ). is_greatest x (r ∷ rows) ≡ true) (sym m) (and-true (later w.0) (and-true (le-leb r.time e (omega arith)) w.1))
       ]
 
 given_one : (r : Row) → SumsUp (r ∷ []) (line_of_row r)

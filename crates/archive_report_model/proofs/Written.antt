@@ -8,7 +8,7 @@ use mathlib.Core.Bool.{Bool, true, false, cond, ◌&&◌}
 use mathlib.Core.List.{List, [], ◌∷◌, ◌++◌, map, flatten}
 use lib.Bits.{bit_xor, xor_lt}
 use lib.Dec.{ltb}
-use lib.ListN.{length, take, drop, replicate, length-take}
+use lib.ListN.{length, drop, replicate, length-take}
 use borrow.Author.Tests.{lt-ltb, ltb-true, eqb-true}
 use Rattle.base_lists.specs.Lists.{all, up_from, padded}
 use Rattle.base_lists.proofs.Choice.{both}
@@ -16,9 +16,8 @@ use Rattle.base_lists.proofs.Tests.{and-true}
 use Rattle.base_crc8.specs.Crc8.{step_of, crc_from, crc_of}
 use Rattle.base_crc8.proofs.Divided.{long_division}
 use Rattle.radio_erp1.specs.Status.{split_of}
-use Rattle.radio_erp1.specs.Subtelegram.{last_byte, sum_of, hash_of, max_length, check_of}
+use Rattle.radio_erp1.specs.Subtelegram.{last_byte, sum_of, hash_of, check_of}
 use Rattle.radio_erp1.proofs.Checks.{check_facts}
-use Rattle.base_buffers.specs.Buffer.{part}
 use Rattle.block_layout.specs.BigEndian.{be}
 use Rattle.block_layout.specs.Cell.{cell_capacity, cell_of}
 use Rattle.block_layout.specs.Block.{cells_per_block, body_length, sealed, block_of}

@@ -1,1 +1,2 @@
 // The yearly report: definitions and theorems, no code.
+#![tactic(auto)]

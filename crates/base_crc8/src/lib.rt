@@ -1,4 +1,6 @@
 // CRC-8 with the generator x^8 + x^2 + x + 1, from 0 and with no final XOR: the hash of ERP1 (source document 001, 3.3.3).
+#![tactic(auto)]
+
 ghost use Rattle.std.specs.Prelude.{◌≡◌, true, ◌+◌, ◌-◌, ◌*◌, ◌/◌, ◌^◌, ◌<◌, ◌≤◌, length, take, drop};
 ghost use Rattle.base_crc8.specs.Crc8.{is_table, step_of, crc_of};
 ghost use Rattle.base_crc8.specs.Words.{EightBits, value_of, join_words, folded_of, halved_of, shorter_of, word_remainder};

@@ -1,4 +1,6 @@
 // The CRC of `crc8` over long inputs, eight bytes at a time. The blocks of checkpoints and archives use it.
+#![tactic(auto)]
+
 ghost use Rattle.std.specs.Prelude.{◌≡◌, true, ◌+◌, ◌<◌, length};
 ghost use Rattle.base_crc8.specs.Crc8.{crc_from, crc_of};
 ghost use Rattle.base_crc8.specs.Words.{power_of};

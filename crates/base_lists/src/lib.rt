@@ -1,1 +1,2 @@
 // Definitions and laws on lists for several crates, in specs/ and proofs/; no code.
+#![tactic(auto)]

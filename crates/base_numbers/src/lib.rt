@@ -1,4 +1,6 @@
 // Numbers in a wider type. The name of a function says the type that it gives and the one that it takes; a byte is a `u8`.
+#![tactic(auto)]
+
 ghost use Rattle.std.specs.Prelude.{◌≡◌, ◌<◌};
 
 pub fn usize_of_byte(b: u8) -> usize

@@ -1,4 +1,6 @@
 // Why a call is refused, and the number that a caller sees (document 01, "Numbers a caller sees"). 0 means no refusal.
+#![tactic(auto)]
+
 ghost use Rattle.std.specs.Prelude.{◌≡◌};
 ghost use Rattle.base_refusal.specs.Number.{number_of, outcome_number};
 

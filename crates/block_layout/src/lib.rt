@@ -1,5 +1,7 @@
 // The bytes of checkpoints and archives: big-endian numbers, the 32-byte cell of an entry and the 512-byte block (document 01, "Parked collector";
 // document 02, A2). Every function returns for buffers of any length.
+#![tactic(auto)]
+
 ghost use Rattle.std.specs.Prelude.{◌≡◌, min, eqb, length, get_or, take, replicate};
 ghost use Rattle.base_lists.specs.Lists as lists;
 ghost use Rattle.base_buffers.specs.Buffer.{part, resized, overwritten};

@@ -7,7 +7,7 @@ use Prim.Native.Nat.{ℕ, zero, suc}
 use lib.Dec.{eqb}
 use lib.ListN.{length, take, drop, length-map}
 use borrow.Author.Tests.{ne_eqb}
-use lib.Seq.{take-length, take-append_seam, drop-append_seam}
+use lib.Seq.{take-length}
 use Rattle.collector_model.specs.View as view
 use Rattle.collector_model.specs.View.{View}
 use Rattle.collector_model.specs.Step.{StepOutcome, step}
@@ -20,11 +20,10 @@ use Rattle.collector_burst.specs.declared.Reception.{Reception}
 use Rattle.collector_burst.specs.declared.Reply.{Reply}
 use Rattle.collector_burst.specs.declared.Bursted.{Bursted}
 use Rattle.collector_burst.specs.declared.Plan.{Plan}
-use Rattle.collector_burst.specs.declared.Within.{Within}
 use Rattle.collector_model.specs.History.{Timely}
 use Rattle.collector_model.specs.Burst.{Replied, reply_with, after_all, replies_to, burst_number, taken}
 use Rattle.base_refusal.specs.Number.{outcome_number}
-use Rattle.collector_burst.specs.Records.{reception_of, replied_of, columns_after_all, Bursts, WithinOf}
+use Rattle.collector_burst.specs.Records.{reception_of, replied_of, columns_after_all, Bursts}
 use Rattle.collector_burst.specs.Private.{after_tested, columns_tested, replies, Delivered, Planned, BurstFinished}
 
 -- ---- records one by one
@@ -150,20 +149,3 @@ module _ (c : Collector) (setting : ℕ) (rs : List Reception) (ys : List Reply)
       stays n =
           let same = d.none (taken_none n) in
           f.next ∙ (λ i. collector_of (same.0 i) (same.1 i))
-
--- ---- the first places of lists that are held by value
-
-pub within : (c : Collector) (setting n m : ℕ) (records : List Reception)
-    (places zs : List Reply) (b : Bursted) (r : Within)
-    → length zs ≡ m
-    → Bursts c setting (take n records) (take m places) b zs
-    → (r.bursted ≡ b) × (r.replies ≡ zs ++ drop m places) → WithinOf c setting n m records places r
-within c setting n m records places zs b r l said e = record {
-  front =
-      let first : take m r.replies ≡ zs =
-      ap (take m) e.1 ∙ ap (λ (k : ℕ). take k (zs ++ drop m places)) (sym l) ∙ take-append_seam zs (drop m places)
-      in
-      rw (first, e.0) said;
-  past =
-      ap (drop m) e.1 ∙ ap (λ (k : ℕ). drop k (zs ++ drop m places)) (sym l) ∙ drop-append_seam zs (drop m places);
-}

@@ -1,5 +1,5 @@
 -- What the contracts of private functions of a burst say. No public contract cites these.
-use Rattle.std.specs.Prelude.{◌≡◌, Bool, cond, List, [], ◌∷◌, ◌++◌, map, ℕ, ◌+◌, ◌≤◌, eqb, take, drop}
+use Rattle.std.specs.Prelude.{◌≡◌, Bool, cond, List, [], ◌∷◌, ◌++◌, map, ℕ, ◌≤◌, eqb, take, drop}
 use Rattle.collector_model.specs.View as view
 use Rattle.collector_model.specs.View.{View}
 use Rattle.collector_state.specs.declared.Collector.{Collector}

@@ -1,4 +1,6 @@
 // Receptions that are handed over in one lent list with a repeater setting, and a second list for the replies (document 02, A1 and A7).
+#![tactic(auto)]
+
 ghost use Rattle.std.specs.Prelude.{◌≡◌, ◌≤◌, min, length};
 ghost use Rattle.radio_erp1.specs.Subtelegram.{max_length};
 ghost use Rattle.collector_state.specs.Collector.{columns};
@@ -117,6 +119,8 @@ fn deliver(
     let mut s = summary;
     let mut i: usize = 0;
     while i < count {
+        // The proof learns from this read that the time has 64 bits.
+        let _time = receptions[i].time;
         let next = take_record(fit, times, lens, entries, copies, s, setting, receptions[i]);
         replies[i] = next.reply;
         s = next.summary;
@@ -236,7 +240,7 @@ pub struct Within {
 }
 
 // A burst of the first `n` records, with the first `m` replies for its answers; a number greater than the length of a list means the whole list. For
-// a caller that holds its lists by value, because the borrow checker does not cover a function that gets a list of structs.
+// a caller that holds its lists by value.
 pub fn burst_within(
     c: Collector,
     setting: u8,

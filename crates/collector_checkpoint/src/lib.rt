@@ -1,4 +1,6 @@
 // The checkpoint of a collector and its restore (document 01, "Parked collector").
+#![tactic(auto)]
+
 ghost use Rattle.std.specs.Prelude.{◌≡◌, ◌-◌, ◌*◌, ◌≤◌, ◌<◌, min, length, drop};
 ghost use mathlib.Core.List.{◌++◌, map, flatten};
 ghost use Rattle.base_lists.specs.Lists.{padded};

@@ -1,5 +1,7 @@
 // What a reception closes: each telegram that is no longer open, as the 32 bytes of an entry of a checkpoint (document 01, "Parked collector"), with
 // its number of copies (document 02, A8).
+#![tactic(auto)]
+
 ghost use Rattle.std.specs.Prelude.{◌≡◌, ◌+◌, ◌*◌, ◌≤◌, length};
 ghost use Rattle.base_buffers.specs.Printed.{Printed};
 ghost use Rattle.radio_erp1.specs.Subtelegram.{max_length};

@@ -3,12 +3,12 @@
 --     answers-back            one number
 --     proper-reply            what is sent has 21 bytes too
 --     reply-back, replies-back     24 bytes
-use Prim.Native.Nat.{ℕ, ◌+◌, ◌*◌, ◌/◌, ◌%◌, ◌≤◌, ◌<◌}
+use Prim.Native.Nat.{ℕ, ◌+◌, ◌*◌, ◌%◌, ◌≤◌, ◌<◌}
 use native.Mathlib.Omega.{arith}
-use mathlib.Core.Path.{◌≡◌, refl, sym, ap, ap₂, ◌∙◌}
-use mathlib.Core.Bool.{Bool, true, false, cond, not, ◌&&◌}
+use mathlib.Core.Path.{◌≡◌, refl}
+use mathlib.Core.Bool.{cond, not, ◌&&◌}
 use mathlib.Core.List.{List, []}
-use lib.Dec.{eqb, leb, ltb}
+use lib.Dec.{leb, ltb}
 use lib.ListN.{length}
 use borrow.Author.Tests.{ne_eqb, eqb-false, not-true}
 use Rattle.base_lists.proofs.Tests.{branch, by_test}
@@ -16,9 +16,8 @@ use Rattle.base_refusal.specs.Number.{number_of}
 use Rattle.radio_erp1.specs.Status.{split_of}
 use Rattle.radio_erp1.specs.Subtelegram.{max_length, check_of, is_valid, is_length_wrong, is_hashed, is_addressed, is_nested, min_addressed_length, wrong_hash, status_of}
 use Rattle.base_buffers.proofs.Buffer.{padded-length, resized_whole}
-use Rattle.radio_telegram.specs.declared.frame.Frame.{Frame}
 use Rattle.radio_telegram.specs.Frame.{frame_of}
-use Rattle.radio_telegram.specs.Repeater.{relay_of, repeat_of}
+use Rattle.radio_telegram.specs.Repeater.{repeat_of}
 use Rattle.radio_telegram.proofs.Repeating.{relay_fits}
 use Rattle.collector_model.specs.Answer.{Shown, Kept, Copy, Loose, Refused, is_kept, shown_number}
 use Rattle.collector_model.specs.View.{Reception, View}

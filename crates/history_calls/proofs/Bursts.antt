@@ -6,8 +6,8 @@ use Prim.Native.Nat.{ℕ, zero, suc, ◌+◌, ◌-◌, ◌*◌, ◌/◌, ◌≤�
 use native.Mathlib.Nat.{zero-add}
 use native.Mathlib.Omega.{arith}
 use native.Mathlib.Decide.{dec_lt}
-use mathlib.Core.Path.{◌≡◌, refl, sym, ap, ap₂, ◌∙◌}
-use mathlib.Core.Bool.{Bool, true, false, cond, not, ◌&&◌}
+use mathlib.Core.Path.{◌≡◌, refl, sym, ap, ◌∙◌}
+use mathlib.Core.Bool.{true, false, not, ◌&&◌}
 use mathlib.Core.List.{List, [], ◌∷◌, ◌++◌, map, flatten}
 use lib.Dec.{eqb}
 use lib.ListN.{length, get_or, take, drop, replicate, length-append, length-drop, length-map, length-replicate, get_or-append}
@@ -17,7 +17,7 @@ use Rattle.base_lists.specs.Lists.{up_from}
 use Rattle.base_lists.proofs.Choice.{cond_no}
 use Rattle.base_lists.proofs.Tests.{by_test, get_d_map}
 use Rattle.base_lists.proofs.UpFrom.{length-up_from, get_d_up_from}
-use Rattle.base_buffers.specs.Buffer.{part, resized}
+use Rattle.base_buffers.specs.Buffer.{part}
 use Rattle.base_buffers.proofs.Buffer.{resized-length}
 use Rattle.base_buffers.proofs.Segments.{Each, flatten-length, flatten-part, left, right}
 use Rattle.base_refusal.specs.declared.Refusal.TheVariants.{NotAccepted}
@@ -26,7 +26,7 @@ use Rattle.collector_model.specs.Answer.{Kept}
 use Rattle.collector_model.specs.View.{Reception, View}
 use Rattle.collector_model.specs.Acceptable.{acceptable}
 use Rattle.collector_model.specs.Step.{step}
-use Rattle.collector_model.specs.Burst.{Replied, reply_with, replies_to, burst_number, call_number, taken, after_all, BurstResult, burst_of}
+use Rattle.collector_model.specs.Burst.{Replied, replies_to, burst_number, taken, after_all, BurstResult, burst_of}
 use Rattle.collector_model.proofs.Returns.{replies_to-length}
 use Rattle.c_layout.specs.Frame.{frame_bytes}
 use Rattle.c_collector.specs.State.{Arrays, state_at}

@@ -1,11 +1,10 @@
 -- The claims, by the model's theorems on any program's calls.
-use Prim.Native.Nat.{ℕ}
 use mathlib.Core.Path.{◌≡◌, refl, sym, ap, ◌∙◌}
 use mathlib.Core.Bool.{true}
-use mathlib.Core.List.{List, [], ◌∷◌}
+use mathlib.Core.List.{List}
 use Rattle.base_lists.specs.Lists.{keep}
 use Rattle.collector_model.specs.View.{View, fresh}
-use Rattle.collector_model.specs.History.{Call, Receive, Seen}
+use Rattle.collector_model.specs.History.{Call, Seen}
 use Rattle.collector_model.specs.Isolation.{is_entry_of}
 use Rattle.collector_model.proofs.States.{states_agree, states_divide, states-left}
 use Rattle.collector_model.proofs.Struck.{states_isolated}

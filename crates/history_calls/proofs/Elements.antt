@@ -2,23 +2,22 @@
 --     took, restored, other-collector, resumed, bursted       on lent arrays
 --     took-value, .., other-value, .., fresh-value             by value
 use Prim.Native.Nat.{ℕ}
-use mathlib.Core.Path.{◌≡◌, refl, sym, ap, ap₂, subst, ◌∙◌}
+use mathlib.Core.Path.{◌≡◌, refl, sym, ap, ap₂, ◌∙◌}
 use mathlib.Core.Bool.{Bool, true, false, cond, not, ◌&&◌}
 use mathlib.Core.List.{List, [], map, flatten}
 use lib.Dec.{eqb}
 use lib.ListN.{length, take}
 use borrow.Author.Tests.{eqb-true, eqb-false}
-use Rattle.base_lists.proofs.Choice.{cond_no}
 use Rattle.base_lists.proofs.Tests.{by_test}
 use Rattle.base_refusal.specs.declared.Refusal.TheVariants.{NotAccepted}
 use Rattle.base_refusal.proofs.Numbers.{refused-number}
-use Rattle.collector_model.specs.Answer.{is_received, shown_of}
+use Rattle.collector_model.specs.Answer.{is_received}
 use Rattle.collector_model.specs.View.{Reception, View, fresh}
 use Rattle.collector_model.specs.Acceptable.{acceptable}
 use Rattle.collector_model.specs.Step.{StepOutcome, step}
 use Rattle.collector_model.specs.Image.{CheckpointResult, RestoreResult, image_length, accepts, parse, checkpoint_of, restore_of}
-use Rattle.collector_model.specs.Burst.{Replied, taken, BurstResult, burst_of}
-use Rattle.collector_model.specs.History.{Receive, Restore, Cut, Burst}
+use Rattle.collector_model.specs.Burst.{taken, BurstResult, burst_of}
+use Rattle.collector_model.specs.History.{Receive, Cut, Burst}
 use Rattle.collector_state.specs.declared.Collector.{Collector}
 use Rattle.collector_state.specs.declared.Taken.{Taken}
 use Rattle.collector_state.specs.Collector.{Columns, columns_of, columns_holding, columns_after, view_of, IsFresh}
@@ -35,7 +34,7 @@ use Rattle.c_collector.specs.Calls.{Takes, Fresh}
 use Rattle.c_collector.proofs.State.{numbers-counted}
 use Rattle.c_checkpoint.specs.Calls.{Restores}
 use Rattle.c_burst.specs.Bytes.{receptions_in, is_sized}
-use Rattle.c_burst.specs.Calls.{BurstCall, burst_call, Bursts}
+use Rattle.c_burst.specs.Calls.{BurstCall, Bursts}
 use Rattle.history_calls.specs.Answers.{replies_in_places}
 use Rattle.history_calls.specs.Elements.{arrays_with, fresh_arrays, restored_arrays, arrays_after}
 use Rattle.history_calls.proofs.Bursts.{bursts_are}

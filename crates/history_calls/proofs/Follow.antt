@@ -6,12 +6,11 @@ use Prim.Native.Nat.{ℕ, ◌+◌, ◌*◌}
 use native.Mathlib.Omega.{arith}
 use mathlib.Core.Path.{◌≡◌, refl, sym, ap, ap₂, subst, ◌∙◌}
 use mathlib.Core.Bool.{true, not}
-use mathlib.Core.List.{List, [], ◌∷◌}
+use mathlib.Core.List.{List, ◌∷◌}
 use lib.Dec.{eqb, leb}
 use lib.ListN.{length}
 use borrow.Author.Tests.{ne_eqb}
 use Rattle.base_lists.proofs.Tests.{by_test}
-use Rattle.radio_telegram.specs.declared.frame.Frame.{Frame}
 use Rattle.radio_telegram.specs.Frame.{frame_of}
 use Rattle.radio_telegram.specs.Repeater.{RepeatResult, repeat_result, repeat_of}
 use Rattle.radio_telegram.proofs.Laws.{repeat_sent}
@@ -20,13 +19,13 @@ use Rattle.collector_model.specs.Answer.{Shown, Kept, Copy, Loose, Refused, is_k
 use Rattle.collector_model.specs.View.{Reception, View}
 use Rattle.collector_model.specs.Acceptable.{acceptable}
 use Rattle.collector_model.specs.Step.{StepOutcome, step, sent_for}
-use Rattle.collector_model.specs.Heard.{HeardResult, copies_of}
+use Rattle.collector_model.specs.Heard.{copies_of}
 use Rattle.collector_model.specs.History.{Call, Receive, Checkpoint, Restore, Cut, Burst, Ask, Look, Seen, Answered, Wrote, Restored, Delivered, Heard, Looked}
 use Rattle.collector_model.specs.States.{Shows, left_by}
 use Rattle.collector_model.specs.States as shows
 use Rattle.collector_state.specs.declared.Collector.{Collector}
 use Rattle.collector_state.specs.Collector.{view_of}
-use Rattle.c_collector.specs.State.{Arrays, state_at, summary_in}
+use Rattle.c_collector.specs.State.{Arrays, state_at}
 use Rattle.c_collector.specs.Calls.{answer_number, Takes, TotalsCall, totals_call, copies_call}
 use Rattle.c_collector.proofs.State.{taken}
 use Rattle.c_burst.specs.Bytes.{receptions_in}

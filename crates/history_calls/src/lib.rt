@@ -1,1 +1,2 @@
 // Whole histories of the code's own states, from the contracts of its calls: definitions and theorems, no code.
+#![tactic(auto)]

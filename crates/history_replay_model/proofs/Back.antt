@@ -3,7 +3,7 @@
 --     reply-back, replies-back       replies, in front of anything
 --     seen_back                      a cell
 --     reads-back                     so records of things that differ differ
-use Prim.Native.Nat.{ℕ, zero, suc, ◌+◌, ◌^◌, ◌<◌}
+use Prim.Native.Nat.{ℕ, zero, suc, ◌^◌, ◌<◌}
 use native.Mathlib.Omega.{arith}
 use mathlib.Core.Path.{◌≡◌, refl, sym, ap, ap₂, ◌∙◌}
 use mathlib.Core.Bool.{cond}
@@ -12,7 +12,6 @@ use lib.Dec.{eqb}
 use lib.ListN.{length, get_or, take, drop, length-append}
 use lib.Seq.{take_at, drop_at}
 use Rattle.radio_erp1.specs.Subtelegram.{max_length}
-use Rattle.radio_telegram.specs.declared.frame.Frame.{Frame}
 use Rattle.base_buffers.specs.Buffer.{part, resized}
 use Rattle.block_layout.specs.BigEndian.{be, unbe}
 use Rattle.block_layout.proofs.BigEndian.{be-length, unbe-be}
@@ -24,7 +23,7 @@ use Rattle.collector_model.specs.Burst.{Replied}
 use Rattle.collector_model.specs.History.{Seen, Answered, Wrote, Restored, Delivered, Heard, Looked}
 use Rattle.history_replay_model.specs.Operation.{looking, receiving, saving, restoring, delivering, asking}
 use Rattle.history_replay_model.specs.Record.{head_of, form_of, reply_of, seen_bytes, record_of}
-use Rattle.history_replay_model.specs.Claims.{WholeTotals, WholeFrame, WholeReplies, WholeSeen, AllWhole, RecordReadsBack}
+use Rattle.history_replay_model.specs.Claims.{WholeTotals, WholeFrame, WholeReplies, WholeSeen, RecordReadsBack}
 use Rattle.history_replay_model.proofs.Lengths.{head_length, reply-length}
 use Rattle.history_replay_model.proofs.Sizes.{seen-length}
 

@@ -1,5 +1,7 @@
 // Slot plans under three timing rules (document 02, A10): the standard rule, the compressed rule of source document 000, and the rule with a pause of
 // source document 004, 5.1. The search and its theorems are those of `plan_slots`, for any rule.
+#![tactic(auto)]
+
 ghost use Rattle.std.specs.Prelude.{◌≡◌};
 ghost use Rattle.plan_slots.specs.Plan.{answer_of};
 ghost use Rattle.plan_rules.specs.Rules.{IsRuleAndLevel, is_rule_and_level, is_offered, rule_of, plan_by, is_lawful_of, is_lawful_by};

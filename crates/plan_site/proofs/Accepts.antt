@@ -1,13 +1,13 @@
 -- The check accepts exactly the sites that fit: a lawful plan keeps its own transmissions apart, and repeaters that do not clash, pair by pair, are
 -- transmissions that are apart, pair by pair.
-use mathlib.Core.Path.{◌≡◌, refl, sym, ap, ◌∙◌}
+use mathlib.Core.Path.{◌≡◌, refl, ap}
 use mathlib.Core.Bool.{Bool, true, false, cond, not, ◌&&◌, ◌||◌}
 use mathlib.Core.List.{List, [], ◌∷◌, flat_map, Memᴰ}
 use Prim.Native.Nat.{ℕ, suc, ◌+◌, ◌≤◌}
 use native.Mathlib.Omega.{arith}
 use lib.Dec.{ltb, eqb}
 use lib.ListN.{take}
-use borrow.Author.Tests.{leb-true, ltb-false, le-ltb, eqb-false, eq-eqb, not-true, not-false}
+use borrow.Author.Tests.{leb-true, ltb-false, le-ltb, eqb-false, not-true, not-false}
 use Rattle.base_lists.specs.Lists.{any, all, pairwise, first_of}
 use Rattle.base_lists.proofs.Choice.{neither, both}
 use Rattle.base_lists.proofs.Members.{all_of, all_at}

@@ -1,17 +1,17 @@
 -- The answers of the check, one for each of its returns.
-use mathlib.Core.Path.{◌≡◌, refl, sym, ap, ◌∙◌}
-use mathlib.Core.Bool.{Bool, true, false, not, or-true}
+use mathlib.Core.Path.{◌≡◌, ◌∙◌}
+use mathlib.Core.Bool.{true, false, not, or-true}
 use mathlib.Core.List.{List}
 use Prim.Native.Nat.{ℕ, ◌≤◌, ◌<◌}
 use native.Mathlib.Omega.{arith}
 use lib.ListN.{length, take}
 use lib.Seq.{length-take-le}
 use borrow.Author.Tests.{lt-ltb, le-ltb, not-true, not-false}
-use Rattle.base_lists.specs.Lists.{all, any, first_of}
+use Rattle.base_lists.specs.Lists.{all, first_of}
 use Rattle.base_refusal.specs.Number.{number_of}
 use Rattle.base_refusal.specs.declared.Refusal.TheVariants as refusal
 use Rattle.plan_site.specs.declared.Assignment.{Assignment}
-use Rattle.plan_site.specs.Site.{max_repeaters, is_in_range, has_lawful_plan, SiteAnswer, site_answer, pair_of, site_of}
+use Rattle.plan_site.specs.Site.{max_repeaters, is_in_range, has_lawful_plan, site_answer, pair_of, site_of}
 use Rattle.base_lists.proofs.First.{any_first, not_all}
 
 module _ (count : ℕ) (repeaters : List Assignment) where

@@ -1,4 +1,6 @@
 // The slot plans of a whole site (document 02, A14): whether every repeater's plan is lawful and no two transmissions overlap.
+#![tactic(auto)]
+
 ghost use Rattle.std.specs.Prelude.{◌≡◌, not, ◌<◌, length, take};
 ghost use Rattle.base_lists.specs.Lists.{all, any, first_of};
 ghost use Rattle.plan_site.specs.Bytes.{HoldsRepeaters, assignment_of, assignments_in, site_in};

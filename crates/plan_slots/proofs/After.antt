@@ -14,7 +14,7 @@ use Rattle.base_lists.proofs.UpFrom.{length-up_from, get_d_up_from}
 use Rattle.plan_slots.specs.declared.Rule.{Rule}
 use Rattle.plan_slots.specs.declared.SlotPlan.{SlotPlan}
 use Rattle.plan_slots.specs.declared.Lookup.TheVariants.{Found, Counted}
-use Rattle.plan_slots.specs.Plan.{plan, no_slot, is_of_two, range_at, slots_in, end_of}
+use Rattle.plan_slots.specs.Plan.{plan, no_slot, is_of_two, range_at, end_of}
 use Rattle.plan_slots.specs.Search.{second_follows, third_follows, fits, IsRow, IsThirds, lookup_of, plans_after, plans_from}
 use Rattle.plan_slots.proofs.Lookups.{lookup_found, lookup_counted}
 

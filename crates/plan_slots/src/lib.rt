@@ -1,4 +1,6 @@
 // Slot plans (document 01, "Slot plan"): which 1 ms slots the transmissions of a telegram use.
+#![tactic(auto)]
+
 ghost use Rattle.std.specs.Prelude.{◌≡◌, true, ◌≤◌, min, max};
 ghost use Rattle.plan_slots.specs.Plan.{answer_of, plan_of, standard_rule, plans, drawn, lawful, within, is_of_two};
 ghost use Rattle.plan_slots.specs.Search.{second_follows, third_follows, IsRow, IsThirds, lookup_of, plans_after, plans_from};

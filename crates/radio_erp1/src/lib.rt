@@ -1,4 +1,6 @@
 // ERP1 subtelegrams: STATUS, HASH, the check, and when two are the same telegram (document 01, "Subtelegram" and "Merging").
+#![tactic(auto)]
+
 pub mod status;
 
 ghost use Rattle.std.specs.Prelude.{◌≡◌, ◌+◌, ◌%◌, ◌≤◌, length, take};

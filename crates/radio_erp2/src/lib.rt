@@ -1,4 +1,6 @@
 // ERP2 telegrams (document 02, A4; source document 004, 4.4 to 4.6): the length byte and Data_PL, read and built.
+#![tactic(auto)]
+
 ghost use Rattle.std.specs.Prelude.{◌≡◌, cond, ◌+◌, ◌^◌, ◌≤◌, ◌<◌, length, get_or, leb};
 ghost use Rattle.base_lists.specs.Lists.{padded};
 ghost use Rattle.block_layout.specs.BigEndian.{unbe};

@@ -6,15 +6,15 @@ use Prim.Native.Nat.{ℕ, suc, ◌+◌, ◌-◌, ◌*◌, ◌^◌, ◌<◌, ◌�
 use native.Mathlib.Omega.{arith}
 use native.Mathlib.Nat.{mul_assoc, mul_comm, mul-one, pow-succ', pow-le-pow_right, mul-le-mul_right}
 use native.Mathlib.Numerals.{add-one}
-use lib.Dec.{lit<, leb, ltb, eqb}
+use lib.Dec.{lit<, leb, ltb}
 use lib.ListN.{length, get_or, take, drop, length-append}
 use lib.Seq.{take-suc, get_or-take, length-take-le, split_at}
-use borrow.Author.Tests.{leb-true, ltb-true, lt-ltb, le-ltb, ne_eqb}
+use borrow.Author.Tests.{leb-true, ltb-true, lt-ltb, ne_eqb}
 use Rattle.base_lists.specs.Lists.{all}
 use Rattle.base_lists.proofs.Choice.{both}
 use Rattle.base_lists.proofs.Tests.{and-true}
 use Rattle.text_lines.specs.Ascii.{space, digit0}
-use Rattle.text_lines.specs.Decimal.{is_digit, decimal_of, has_leading_zero, is_number, is_time, timed_of}
+use Rattle.text_lines.specs.Decimal.{is_digit, decimal_of, is_number, is_time, timed_of}
 use Rattle.text_lines.specs.Private.{Thirteen}
 use Rattle.text_lines.specs.declared.Timed.{Timed}
 use Rattle.text_lines.proofs.Digits.{leading_zero}

@@ -1,17 +1,15 @@
 -- Laws of pairs of characters that are read eight at a time.
-use mathlib.Core.Path.{◌≡◌, refl, sym, ap, ◌∙◌}
+use mathlib.Core.Path.{◌≡◌, refl, sym, ◌∙◌}
 use mathlib.Core.Bool.{Bool, true}
 use mathlib.Core.List.{List, [], ◌∷◌, ◌++◌}
 use Prim.Native.Nat.{ℕ, zero, suc, ◌+◌, ◌-◌, ◌*◌, ◌/◌, ◌%◌, ◌<◌, ◌≤◌}
 use native.Mathlib.Omega.{arith}
 use native.Mathlib.Decide.{dec_lt}
 use native.Mathlib.Nat.{mod-eq_of_lt, zero-add}
-use native.Mathlib.Numerals.{add-one}
-use lib.Dec.{eqb, ltb}
 use lib.ListN.{length, get_or, take, drop, replicate, length-append, length-replicate, get_or-replicate, get_or-append}
 use lib.Seq.{get_or-take, get_or-append-add, length-take-le, split_at, ext_get_or}
 use borrow.Author.Tests.{lt-ltb}
-use Rattle.base_lists.specs.Lists.{all, padded}
+use Rattle.base_lists.specs.Lists.{padded}
 use Rattle.text_lines.specs.Ascii.{newline}
 use Rattle.text_lines.specs.Hex.{nibble_of, is_hex_digit, is_hex, hex_bytes, leading_bytes, Decoded}
 use Rattle.text_lines.specs.Private.{EndedPairs, Covered, PutTwo, CopiedPart}

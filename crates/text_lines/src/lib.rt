@@ -1,4 +1,6 @@
 // Reads the lines of the program `collect` (document 01, "Cases").
+#![tactic(auto)]
+
 ghost use Rattle.std.specs.Prelude.{◌≡◌, true, ℕ, ◌+◌, ◌*◌, ◌/◌, ◌%◌, ◌<◌, ◌≤◌, min, length, get_or, take, replicate};
 ghost use Rattle.text_lines.specs.Decimal.{is_digit, decimal_of, appended, timed_of};
 ghost use Rattle.text_lines.specs.Private.{Thirteen, EndedPairs, PutTwo, CopiedPart};

@@ -1,5 +1,7 @@
 // A program over the lines of its input, in one piece or in chunks: definitions and laws are in specs/ and proofs/. The code here is what such a
 // program does with its buffer, without a collector.
+#![tactic(auto)]
+
 ghost use Rattle.std.specs.Prelude.{◌≡◌, ◌+◌, ◌≤◌, length, take, drop};
 ghost use Rattle.std.proofs.lemmas.List.Edits.{sets};
 ghost use Rattle.text_program.specs.Buffer.{Carried};

@@ -1,6 +1,5 @@
 -- What is printed reads back. proofs/ReadBack.antt proves it.
-use Rattle.std.specs.Prelude.{◌≡◌, Bool, true, List, ◌∷◌, ◌++◌, ℕ, ◌^◌, ◌≤◌, ◌<◌, ltb, length}
-use Rattle.base_lists.specs.Lists.{all}
+use Rattle.std.specs.Prelude.{◌≡◌, true, List, ◌∷◌, ◌++◌, ℕ, ◌^◌, ◌≤◌, ◌<◌, length}
 use Rattle.text_lines.specs.Ascii.{space}
 use Rattle.text_lines.specs.Decimal.{decimal_of, is_time}
 use Rattle.text_lines.specs.Hex.{max_bytes, is_hex, hex_bytes}

@@ -2,7 +2,7 @@
 -- comma-separated, and as JSON with an object on each line.
 use Rattle.std.specs.Prelude.{ℕ, ◌+◌, ◌*◌, cond, List, [], ◌∷◌, ◌++◌}
 use Rattle.text_rows.specs.Codes.{codes}
-use Rattle.text_rows.specs.Text.{decimal_text, hex_text, row_behind, bad_text, named_total}
+use Rattle.text_rows.specs.Text.{hex_text, row_behind, bad_text, named_total}
 use Rattle.text_rows.specs.declared.Row.{Row}
 use Rattle.text_rows.specs.declared.formats.Format.{Format}
 use Rattle.text_rows.specs.declared.formats.Source.{Source}

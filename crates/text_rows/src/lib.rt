@@ -1,5 +1,7 @@
 // Writes the lines of the program `collect` (document 01, "Cases"). Each function writes into a lent buffer from `at` on and returns the position
 // after its text. If the longest such text would not fit, it writes nothing and returns `at`.
+#![tactic(auto)]
+
 pub mod formats;
 
 ghost use Rattle.std.specs.Prelude.{◌≡◌, ◌+◌, ◌*◌, ◌≤◌, ◌<◌, leb, length, drop};

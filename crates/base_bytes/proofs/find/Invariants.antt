@@ -1,5 +1,5 @@
 -- The loop's invariant: what is left to search gives the answer.
-use Rattle.std.proofs.Common.{◌≡◌, ◌+◌, ◌-◌, ◌≤◌, ℕ, List, length, drop}
+use Rattle.std.proofs.Common.{◌≡◌, ◌+◌, ◌-◌, ◌≤◌, ℕ, List}
 use Rattle.base_bytes.specs.Bytes.{index_of, slice}
 use Rattle.base_bytes.proofs.find.Given as goal
 

@@ -1,0 +1,12 @@
+-- `archive_file::is_whole` meets its contract.
+use borrow.Author.Tests.{eq-eqb, ne_eqb}
+use Rattle.archive_model.specs.Buffer.{is_whole}
+use Rattle.archive_file.proofs.is_whole.Goals as goal
+
+pub returns-then-len-ne0 : goal.returns-then-len-ne0
+unfolding is_whole
+returns-then-len-ne0 c = rw (ne_eqb _ 0 c.if-len-ne0.true)
+
+pub returns : goal.returns
+unfolding is_whole
+returns c = rw (eq-eqb _ 0 c.if-len-ne0.false)
