@@ -65,23 +65,23 @@ pub fn read_full<R: Read>(input: &mut R, buffer: &mut [u8]) -> io::Result<usize>
 }
 
 // Prints text as it is.
-pub fn text<W: Write>(out: &mut W, s: &[u8]) -> io::Result<()> {
+pub fn text<W: Write>(to: &mut W, s: &[u8]) -> io::Result<()> {
     out.write_all(s)
 }
 
 // Prints a number in decimal digits.
-pub fn decimal<W: Write>(out: &mut W, n: u64) -> io::Result<()> {
+pub fn decimal<W: Write>(to: &mut W, n: u64) -> io::Result<()> {
     write!(out, "{n}")
 }
 
 // Prints a number and a space.
-pub fn field<W: Write>(out: &mut W, n: u64) -> io::Result<()> {
+pub fn field<W: Write>(to: &mut W, n: u64) -> io::Result<()> {
     decimal(out, n)?;
     text(out, b" ")
 }
 
 // Prints a number and a newline.
-pub fn last_field<W: Write>(out: &mut W, n: u64) -> io::Result<()> {
+pub fn last_field<W: Write>(to: &mut W, n: u64) -> io::Result<()> {
     decimal(out, n)?;
     text(out, b"\n")
 }
@@ -94,7 +94,7 @@ pub fn one_if(passes: bool) -> u64
 }
 
 // Prints bytes in upper-case hexadecimal digits, or `-` if there are none.
-pub fn hex<W: Write>(out: &mut W, s: &[u8]) -> io::Result<()> {
+pub fn hex<W: Write>(to: &mut W, s: &[u8]) -> io::Result<()> {
     if s.is_empty() {
         text(out, b"-")?;
     }
@@ -105,7 +105,7 @@ pub fn hex<W: Write>(out: &mut W, s: &[u8]) -> io::Result<()> {
 }
 
 // Prints one byte in two digits.
-pub fn byte<W: Write>(out: &mut W, b: u8) -> io::Result<()> {
+pub fn byte<W: Write>(to: &mut W, b: u8) -> io::Result<()> {
     text(out, &[digit(b / 16), digit(b % 16)])
 }
 
