@@ -1,5 +1,5 @@
 // Makes the histories of standard input on a collector, each record by `history_replay::resume`, and prints what that wrote. The output must equal
-// that of the second program (tests/reference/README.md has the format). The collector is in five arrays, which each call is lent.
+// that of the second program (tests/reference/README.md has the format). The collector is in five arrays, which are lent to each call.
 #![tactic(auto)]
 
 pub(crate) mod lent;

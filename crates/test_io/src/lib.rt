@@ -66,24 +66,24 @@ pub fn read_full<R: Read>(input: &mut R, buffer: &mut [u8]) -> io::Result<usize>
 
 // Prints text as it is.
 pub fn text<W: Write>(to: &mut W, s: &[u8]) -> io::Result<()> {
-    out.write_all(s)
+    to.write_all(s)
 }
 
 // Prints a number in decimal digits.
 pub fn decimal<W: Write>(to: &mut W, n: u64) -> io::Result<()> {
-    write!(out, "{n}")
+    write!(to, "{n}")
 }
 
 // Prints a number and a space.
 pub fn field<W: Write>(to: &mut W, n: u64) -> io::Result<()> {
-    decimal(out, n)?;
-    text(out, b" ")
+    decimal(to, n)?;
+    text(to, b" ")
 }
 
 // Prints a number and a newline.
 pub fn last_field<W: Write>(to: &mut W, n: u64) -> io::Result<()> {
-    decimal(out, n)?;
-    text(out, b"\n")
+    decimal(to, n)?;
+    text(to, b"\n")
 }
 
 // 1 for true and 0 for false, for counting.
@@ -96,17 +96,17 @@ pub fn one_if(passes: bool) -> u64
 // Prints bytes in upper-case hexadecimal digits, or `-` if there are none.
 pub fn hex<W: Write>(to: &mut W, s: &[u8]) -> io::Result<()> {
     if s.is_empty() {
-        text(out, b"-")?;
+        text(to, b"-")?;
     }
     for b in s {
-        byte(out, *b)?;
+        byte(to, *b)?;
     }
     Ok(())
 }
 
 // Prints one byte in two digits.
 pub fn byte<W: Write>(to: &mut W, b: u8) -> io::Result<()> {
-    text(out, &[digit(b / 16), digit(b % 16)])
+    text(to, &[digit(b / 16), digit(b % 16)])
 }
 
 // Writes the bytes of a line of digits.
