@@ -287,17 +287,13 @@ fn scan<W: Write>(to: &mut W, buffer: &[u8], blocks: u64) -> io::Result<()>
 {
     let step = BLOCK * piece(blocks);
     let mut s = Scan::start();
-    let mut at: usize = 0;
     test_io::text(to, b"SCAN ")?;
-    while at < buffer.len() {
-        let end = smaller(at + step, buffer.len());
-        let fed = s.feed(&buffer[at..end]);
-        let answer = fed.answer;
-        if let Outcome::Refused(why) = answer {
+    for part in buffer.chunks(step) {
+        let fed = s.feed(part);
+        if let Outcome::Refused(why) = fed.answer {
             return put_three(to, base_refusal::number(why), 0, 0);
         }
         s = fed.next;
-        at = end;
     }
     put_scan(to, s)
 }
