@@ -48,7 +48,9 @@ fn calls<R: Read, W: Write>(
     list: &mut [u64],
     most: u64,
 ) -> io::Result<()>
-    requires { (length buffer.old ≡ 24576) × (length out.old ≡ 24576) × (length list.old ≡ 64) }
+    requires buffer_length { length buffer.old ≡ 24576 }
+    requires out_length { length out.old ≡ 24576 }
+    requires list_length { length list.old ≡ 64 }
 {
     let mut report = Report::empty();
     let mut n: usize = 0;
@@ -94,7 +96,10 @@ fn called<R: Read, W: Write>(
     list: &mut [u64],
     report: Report,
 ) -> io::Result<Next>
-    requires { (length buffer.old ≡ 24576) × (n ≤ 24576) × (length out.old ≡ 24576) × (length list.old ≡ 64) }
+    requires buffer_length { length buffer.old ≡ 24576 }
+    requires n_bound { n ≤ 24576 }
+    requires out_length { length out.old ≡ 24576 }
+    requires list_length { length list.old ≡ 64 }
     ensures { IfOk result (λ next. next.len ≤ 24576) }
 {
     let next = next_input(input)?;
@@ -128,8 +133,11 @@ fn made<W: Write>(
     list: &mut [u64],
     r: &[u8],
 ) -> io::Result<usize>
-    requires { (length buffer.old ≡ 24576) × (n ≤ 24576) × (length out.old ≡ 24576) × (length list.old ≡ 64)
-        × (length r.now ≡ 320) }
+    requires buffer_length { length buffer.old ≡ 24576 }
+    requires n_bound { n ≤ 24576 }
+    requires out_length { length out.old ≡ 24576 }
+    requires list_length { length list.old ≡ 64 }
+    requires r_length { length r.now ≡ 320 }
     ensures { IfOk result (λ len. len ≤ 24576) }
 {
     if r[0] == 1 {
@@ -152,7 +160,8 @@ fn made<W: Write>(
 }
 
 fn call<W: Write>(to: &mut W, buffer: &mut [u8], r: &[u8]) -> io::Result<()>
-    requires { (length buffer.old ≤ 24576) × (length r.now ≡ 320) }
+    requires buffer_length { length buffer.old ≤ 24576 }
+    requires r_length { length r.now ≡ 320 }
 {
     let operation = r[0];
     match operation {
@@ -195,7 +204,8 @@ fn put<W: Write>(to: &mut W, buffer: &mut [u8], r: &[u8]) -> io::Result<()>
 }
 
 fn store(buffer: &mut [u8], place: usize, bytes: &[u8])
-    requires { (place ≤ 24576) × (length bytes.now ≤ 300) }
+    requires place_bound { place ≤ 24576 }
+    requires bytes_length { length bytes.now ≤ 300 }
 {
     for i in 0..bytes.len() {
         store_one(buffer, place + i, bytes[i]);
@@ -319,7 +329,9 @@ fn salvage<W: Write>(
     list: &mut [u64],
     r: &[u8],
 ) -> io::Result<()>
-    requires { (length out.old ≡ 24576) × (length list.old ≡ 64) × (length r.now ≡ 320) }
+    requires out_length { length out.old ≡ 24576 }
+    requires list_length { length list.old ≡ 64 }
+    requires r_length { length r.now ≡ 320 }
 {
     fill(out);
     fill_list(list);
@@ -382,7 +394,8 @@ fn remove<W: Write>(to: &mut W, buffer: &mut [u8], r: &[u8]) -> io::Result<()>
 }
 
 fn read_identities(identities: &mut [u32], r: &[u8])
-    requires { (length identities.old ≡ 70) × (length r.now ≡ 320) }
+    requires identities_length { length identities.old ≡ 70 }
+    requires r_length { length r.now ≡ 320 }
 {
     for i in 0..identities.len() {
         identities[i] = four_bytes(block_layout::read_number(&r[4 + 4 * i..4 + 4 * i + 4]));
@@ -463,7 +476,8 @@ fn smaller(n: usize, m: usize) -> usize
 
 // The number of blocks in a piece: at least one, and no more than the buffer has.
 fn piece(blocks: u64) -> usize
-    ensures { (0 < result) × (result ≤ 48) }
+    ensures low { 0 < result }
+    ensures high { result ≤ 48 }
 {
     let n = least(blocks, 48);
     if n == 0 {

@@ -71,7 +71,10 @@ fn crc<W: Write>(to: &mut W, r: &[u8]) -> io::Result<()>
 
 // The pattern of p bytes at 8, repeated to n bytes.
 fn repeated(r: &[u8], n: usize, p: usize) -> [u8; LONGEST]
-    requires { (length r.now ≡ 64) × (n ≤ 1024) × (1 ≤ p) × (p ≤ 28) }
+    requires r_length { length r.now ≡ 64 }
+    requires n_bound { n ≤ 1024 }
+    requires p_low { 1 ≤ p }
+    requires p_high { p ≤ 28 }
 {
     let mut input = [0u8; LONGEST];
     for i in 0..n {
@@ -82,7 +85,8 @@ fn repeated(r: &[u8], n: usize, p: usize) -> [u8; LONGEST]
 
 // A length from 1 to 28: 1 for 0, and 28 for more.
 fn pattern_length(len: usize) -> usize
-    ensures { (1 ≤ result) × (result ≤ 28) }
+    ensures low { 1 ≤ result }
+    ensures high { result ≤ 28 }
 {
     if len == 0 {
         return 1;
@@ -240,7 +244,8 @@ fn payload(part: &[u8]) -> [u8; 14]
 }
 
 fn least(x: usize, y: usize) -> usize
-    ensures { (result ≤ x) × (result ≤ y) }
+    ensures first { result ≤ x }
+    ensures second { result ≤ y }
 {
     if x < y { x } else { y }
 }

@@ -248,7 +248,8 @@ fn pair(high: u8, low: u8) -> usize {
 }
 
 fn least(x: usize, y: usize) -> usize
-    ensures { (result ≤ x) × (result ≤ y) }
+    ensures first { result ≤ x }
+    ensures second { result ≤ y }
 {
     if x < y { x } else { y }
 }

@@ -29,7 +29,9 @@ pub(crate) fn next_bytes<R: Read>(input: &mut R, n: usize) -> io::Result<[u8; BU
 
 // Copies the bytes of a record, its last ones, to `at`.
 fn put_part<'a>(out: &'a mut [u8], at: usize, r: &'a [u8])
-    requires { (length out.old ≡ 3054) × (at ≤ 3000) × (length r.now ≡ 64) }
+    requires out_length { length out.old ≡ 3054 }
+    requires at_bound { at ≤ 3000 }
+    requires r_length { length r.now ≡ 64 }
 {
     block_layout::put_bytes(&mut out[at..at + PART], &r[10..64]);
 }
@@ -54,7 +56,8 @@ pub(crate) fn next_records<R: Read>(input: &mut R, n: usize) -> io::Result<[u8; 
 }
 
 fn put_record<'a>(out: &'a mut [u8], i: usize, r: &'a [u8])
-    requires { (length out.old ≡ 16576) × (i ≤ 258) }
+    requires out_length { length out.old ≡ 16576 }
+    requires i_bound { i ≤ 258 }
 {
     let at = history_replay::CALL_LENGTH * i;
     block_layout::put_bytes(&mut out[at..at + history_replay::CALL_LENGTH], r);

@@ -186,7 +186,8 @@ fn changed<W: Write>(
     image: &mut [u8],
     k: usize,
 ) -> io::Result<Session>
-    requires { (length image.old ≡ 2560) × (k ≤ 2560) }
+    requires image_length { length image.old ≡ 2560 }
+    requires k_bound { k ≤ 2560 }
 {
     if k < IMAGE {
         image[k] = image[k] ^ 1;
@@ -236,7 +237,8 @@ fn delivered<R: Read, W: Write>(
     r: &[u8],
     n: usize,
 ) -> io::Result<Session>
-    requires { (length r.now ≡ 64) × (n ≤ 259) }
+    requires r_length { length r.now ≡ 64 }
+    requires n_bound { n ≤ 259 }
 {
     let m = records::places_in(r);
     let call = records::burst(r, n, m);

@@ -67,7 +67,8 @@ pub(crate) fn put_restored<'a, W: Write>(
 
 // Prints the first m entries, a line each.
 pub(crate) fn put_delivered<W: Write>(to: &mut W, cell: &[u8], m: usize) -> io::Result<()>
-    requires { (length cell.now ≡ 8087) × (m ≤ 259) }
+    requires cell_length { length cell.now ≡ 8087 }
+    requires m_bound { m ≤ 259 }
 {
     put_restored(to, b"B ", cell)?;
     for i in 0..m {
@@ -77,7 +78,8 @@ pub(crate) fn put_delivered<W: Write>(to: &mut W, cell: &[u8], m: usize) -> io::
 }
 
 fn put_place<W: Write>(to: &mut W, cell: &[u8], i: usize) -> io::Result<()>
-    requires { (length cell.now ≡ 8087) × (i ≤ 258) }
+    requires cell_length { length cell.now ≡ 8087 }
+    requires i_bound { i ≤ 258 }
 {
     let at = BODY + REPLY * i;
     test_io::text(to, b"b ")?;

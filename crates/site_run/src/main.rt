@@ -46,7 +46,8 @@ fn answer<W: Write>(to: &mut W, r: &[u8; LONG]) -> io::Result<()> {
 }
 
 fn smaller(x: usize, y: usize) -> usize
-    ensures { (result ≤ x) × (result ≤ y) }
+    ensures first { result ≤ x }
+    ensures second { result ≤ y }
 {
     if x < y { x } else { y }
 }
