@@ -1,13 +1,17 @@
 // Makes calls on archives, one for each long record of standard input, and prints what each answers. The output must equal that of the second program
 // (tests/reference/README.md has the format).
+#![tactic(auto)]
+
 mod reports;
 
-ghost use Rattle.std.specs.Prelude.{◌≡◌, ◌≤◌, ◌<◌, min, length};
+ghost use Rattle.std.specs.Prelude.{◌≡◌, ◌≤◌, ◌<◌, min, IfOk, length};
 
 use archive_file::{ArchiveOutcome, Found, Opened, RowAt, Scan, Stage};
 use archive_repack::Removed;
 use archive_report::Report;
 use base_refusal::Outcome;
+use std::io;
+use std::io::{BufWriter, Read, Write};
 
 // The largest length of the buffer that holds the archive.
 const CAPACITY: usize = 24576;
@@ -20,35 +24,45 @@ const POSITIONS: usize = 64;
 // The largest number of identities in a record.
 const IDENTITIES: usize = 70;
 
-fn main() {
+fn main(rt: HostRuntime) -> io::Result<()> {
+    let mut to = BufWriter::new(rt.alloc(), io::writer(&rt))?;
     let mut buffer = [0u8; CAPACITY];
-    run(&mut buffer);
+    run(&mut rt.reader(), &mut to, &mut buffer)?;
+    to.flush()
 }
 
-fn run(buffer: &mut [u8])
+fn run<R: Read, W: Write>(input: &mut R, to: &mut W, buffer: &mut [u8]) -> io::Result<()>
     requires { length buffer.old ≡ 24576 }
 {
     let mut out = [0u8; CAPACITY];
     let mut list = [0u64; POSITIONS];
-    calls(buffer, &mut out, &mut list, 1_000_000);
+    calls(input, to, buffer, &mut out, &mut list, 1_000_000)
 }
 
 // Makes at most `most` calls, until the input ends.
-fn calls(buffer: &mut [u8], out: &mut [u8], list: &mut [u64], most: u64)
-    requires { (length buffer.old ≡ 24576) × (length out.old ≡ 24576) × (length list.old ≡ 64) }
+fn calls<R: Read, W: Write>(
+    input: &mut R,
+    to: &mut W,
+    buffer: &mut [u8],
+    out: &mut [u8],
+    list: &mut [u64],
+    most: u64,
+) -> io::Result<()>
+    requires buffer_length { length buffer.old ≡ 24576 }
+    requires out_length { length out.old ≡ 24576 }
+    requires list_length { length list.old ≡ 64 }
 {
     let mut report = Report::empty();
     let mut n: usize = 0;
-    let mut left = most;
-    while 0 < left {
-        left -= 1;
-        let next = called(buffer, n, out, list, report);
+    for _ in 0..most {
+        let next = called(input, to, buffer, n, out, list, report)?;
         n = next.len;
         report = next.report;
         if !next.more {
-            left = 0;
+            break;
         }
     }
+    Ok(())
 }
 
 // The next record; `more` is false after the last one.
@@ -58,13 +72,10 @@ struct Input {
     bytes: [u8; test_io::LONG],
 }
 
-fn next_input() -> Input {
+fn next_input<R: Read>(input: &mut R) -> io::Result<Input> {
     let mut bytes = [0u8; test_io::LONG];
-    let more = test_io::next_long_record(&mut bytes);
-    Input {
-        more: more,
-        bytes: bytes,
-    }
+    let more = test_io::next_long_record(input, &mut bytes)?;
+    Ok(Input { more, bytes })
 }
 
 // How long the archive's buffer is after a call, whether there was one, and the report.
@@ -76,102 +87,125 @@ struct Next {
 }
 
 // The next call, if there is one: on the first `n` bytes of the buffer, on the output and the list of salvage, and on the report.
-fn called(buffer: &mut [u8], n: usize, out: &mut [u8], list: &mut [u64], report: Report) -> Next
-    requires { (length buffer.old ≡ 24576) × (n ≤ 24576) × (length out.old ≡ 24576) × (length list.old ≡ 64) }
-    ensures { result.len ≤ 24576 }
+fn called<R: Read, W: Write>(
+    input: &mut R,
+    to: &mut W,
+    buffer: &mut [u8],
+    n: usize,
+    out: &mut [u8],
+    list: &mut [u64],
+    report: Report,
+) -> io::Result<Next>
+    requires buffer_length { length buffer.old ≡ 24576 }
+    requires n_bound { n ≤ 24576 }
+    requires out_length { length out.old ≡ 24576 }
+    requires list_length { length list.old ≡ 64 }
+    ensures { IfOk result (λ next. next.len ≤ 24576) }
 {
-    let input = next_input();
-    if !input.more {
-        return Next {
+    let next = next_input(input)?;
+    if !next.more {
+        return Ok(Next {
             len: n,
             more: false,
             report,
-        };
+        });
     }
-    let r = input.bytes;
+    let r = next.bytes;
     if reports::is_call(r[0]) {
-        return Next {
+        return Ok(Next {
             len: n,
             more: true,
-            report: reports::call(&buffer[0..n], report, &r),
-        };
+            report: reports::call(to, &buffer[0..n], report, &r)?,
+        });
     }
-    Next {
-        len: made(buffer, n, out, list, &r),
+    Ok(Next {
+        len: made(to, buffer, n, out, list, &r)?,
         more: true,
         report,
-    }
+    })
 }
 
-fn made(buffer: &mut [u8], n: usize, out: &mut [u8], list: &mut [u64], r: &[u8]) -> usize
-    requires { (length buffer.old ≡ 24576) × (n ≤ 24576) × (length out.old ≡ 24576) × (length list.old ≡ 64)
-        × (length r.now ≡ 320) }
-    ensures { result ≤ 24576 }
+fn made<W: Write>(
+    to: &mut W,
+    buffer: &mut [u8],
+    n: usize,
+    out: &mut [u8],
+    list: &mut [u64],
+    r: &[u8],
+) -> io::Result<usize>
+    requires buffer_length { length buffer.old ≡ 24576 }
+    requires n_bound { n ≤ 24576 }
+    requires out_length { length out.old ≡ 24576 }
+    requires list_length { length list.old ≡ 64 }
+    requires r_length { length r.now ≡ 320 }
+    ensures { IfOk result (λ len. len ≤ 24576) }
 {
     if r[0] == 1 {
-        return fresh(buffer, block_layout::read_number(&r[1..5]));
+        return fresh(to, buffer, block_layout::read_number(&r[1..5]));
     }
     if r[0] == 9 {
-        salvage(&buffer[0..n], out, list, r);
-        return n;
+        salvage(to, &buffer[0..n], out, list, r)?;
+        return Ok(n);
     }
     if r[0] == 10 {
-        out_block(out, block_layout::read_number(&r[1..5]));
-        return n;
+        out_block(to, out, block_layout::read_number(&r[1..5]))?;
+        return Ok(n);
     }
     if r[0] == 11 {
-        put_list(list);
-        return n;
+        put_list(to, list)?;
+        return Ok(n);
     }
-    call(&mut buffer[0..n], r);
-    n
+    call(to, &mut buffer[0..n], r)?;
+    Ok(n)
 }
 
-fn call(buffer: &mut [u8], r: &[u8])
-    requires { (length buffer.old ≤ 24576) × (length r.now ≡ 320) }
+fn call<W: Write>(to: &mut W, buffer: &mut [u8], r: &[u8]) -> io::Result<()>
+    requires buffer_length { length buffer.old ≤ 24576 }
+    requires r_length { length r.now ≡ 320 }
 {
     let operation = r[0];
     match operation {
-        2 => put(buffer, r),
-        3 => append(buffer, r),
-        4 => append_at(buffer, r),
-        5 => open(buffer),
-        6 => row(buffer, block_layout::read_number(&r[1..9])),
-        7 => block(buffer, block_layout::read_number(&r[1..5])),
-        8 => scan(buffer, block_layout::read_number(&r[1..5])),
-        12 => remove(buffer, r),
-        18 => cut(buffer, r),
-        _ => test_io::text(b"?\n"),
+        2 => put(to, buffer, r),
+        3 => append(to, buffer, r),
+        4 => append_at(to, buffer, r),
+        5 => open(to, buffer),
+        6 => row(to, buffer, block_layout::read_number(&r[1..9])),
+        7 => block(to, buffer, block_layout::read_number(&r[1..5])),
+        8 => scan(to, buffer, block_layout::read_number(&r[1..5])),
+        12 => remove(to, buffer, r),
+        18 => cut(to, buffer, r),
+        _ => test_io::text(to, b"?\n"),
     }
 }
 
 // ---- the calls
 
 // A buffer of zeros of the requested length.
-fn fresh(buffer: &mut [u8], number: u64) -> usize
+fn fresh<W: Write>(to: &mut W, buffer: &mut [u8], number: u64) -> io::Result<usize>
     requires { length buffer.old ≡ 24576 }
-    ensures { result ≤ 24576 }
+    ensures { IfOk result (λ len. len ≤ 24576) }
 {
     let n = least(number, CAPACITY);
     block_layout::clear(&mut buffer[0..n]);
-    test_io::text(b"NEW ");
-    test_io::decimal(n as u64);
-    test_io::text(b"\n");
-    n
+    test_io::text(to, b"NEW ")?;
+    test_io::decimal(to, n as u64)?;
+    test_io::text(to, b"\n")?;
+    Ok(n)
 }
 
 // Copies the bytes of the record to their position, as far as they are inside the buffer.
-fn put(buffer: &mut [u8], r: &[u8])
+fn put<W: Write>(to: &mut W, buffer: &mut [u8], r: &[u8]) -> io::Result<()>
     requires { length r.now ≡ 320 }
 {
     let place = least(block_layout::read_number(&r[1..5]), CAPACITY);
     let count = least(block_layout::read_number(&r[5..7]), 300);
     store(buffer, place, &r[8..8 + count]);
-    test_io::text(b"PUT\n");
+    test_io::text(to, b"PUT\n")
 }
 
 fn store(buffer: &mut [u8], place: usize, bytes: &[u8])
-    requires { (place ≤ 24576) × (length bytes.now ≤ 300) }
+    requires place_bound { place ≤ 24576 }
+    requires bytes_length { length bytes.now ≤ 300 }
 {
     for i in 0..bytes.len() {
         store_one(buffer, place + i, bytes[i]);
@@ -184,118 +218,120 @@ fn store_one(buffer: &mut [u8], at: usize, byte: u8) {
     }
 }
 
-fn append(buffer: &mut [u8], r: &[u8])
+fn append<W: Write>(to: &mut W, buffer: &mut [u8], r: &[u8]) -> io::Result<()>
     requires { length r.now ≡ 320 }
 {
     let len = least(base_numbers::u64_of_byte(r[10]), 64);
     let time = block_layout::read_number(&r[1..9]);
     let answer = archive_file::append(buffer, &r[11..11 + len], time, r[9] != 0);
-    test_io::text(b"APPEND ");
-    put_outcome(answer);
-    test_io::text(b"\n");
+    test_io::text(to, b"APPEND ")?;
+    put_outcome(to, answer)?;
+    test_io::text(to, b"\n")
 }
 
-fn append_at(buffer: &mut [u8], r: &[u8])
+fn append_at<W: Write>(to: &mut W, buffer: &mut [u8], r: &[u8]) -> io::Result<()>
     requires { length r.now ≡ 320 }
 {
     let len = least(base_numbers::u64_of_byte(r[10]), 64);
     let time = block_layout::read_number(&r[1..9]);
     let rows = block_layout::read_number(&r[80..88]) as usize;
     let answer = archive_file::append_at(buffer, rows, &r[11..11 + len], time, r[9] != 0);
-    test_io::text(b"APPENDAT ");
-    put_outcome(answer);
-    test_io::text(b"\n");
+    test_io::text(to, b"APPENDAT ")?;
+    put_outcome(to, answer)?;
+    test_io::text(to, b"\n")
 }
 
-fn open(buffer: &[u8]) {
+fn open<W: Write>(to: &mut W, buffer: &[u8]) -> io::Result<()> {
     let answer = archive_file::open(buffer);
-    test_io::text(b"OPEN ");
+    test_io::text(to, b"OPEN ")?;
     match answer {
-        Opened::Rows(n) => put_three(0, 0, n),
-        Opened::Damaged(k) => put_three(12, k, 0),
-        Opened::Refused(why) => put_three(base_refusal::number(why), 0, 0),
+        Opened::Rows(n) => put_three(to, 0, 0, n),
+        Opened::Damaged(k) => put_three(to, 12, k, 0),
+        Opened::Refused(why) => put_three(to, base_refusal::number(why), 0, 0),
     }
 }
 
-fn row(buffer: &[u8], index: u64) {
+fn row<W: Write>(to: &mut W, buffer: &[u8], index: u64) -> io::Result<()> {
     let found = archive_file::row_at(buffer, index as usize);
     let answer = found.answer;
-    test_io::text(b"ROW ");
+    test_io::text(to, b"ROW ")?;
     match answer {
-        Found::Row => test_io::text(b"0"),
-        Found::Refused(why) => test_io::decimal(base_refusal::number(why) as u64),
+        Found::Row => test_io::text(to, b"0")?,
+        Found::Refused(why) => test_io::decimal(to, base_refusal::number(why) as u64)?,
     }
-    put_row(found);
+    put_row(to, found)
 }
 
-fn put_row(found: RowAt) {
+fn put_row<W: Write>(to: &mut W, found: RowAt) -> io::Result<()> {
     let bytes = found.bytes;
     let len = least(base_numbers::u64_of_byte(found.len), 21);
-    put_number(found.time);
-    put_number(bit(found.loose));
-    test_io::text(b" ");
-    test_io::hex(&bytes[0..len]);
-    test_io::text(b"\n");
+    put_number(to, found.time)?;
+    put_number(to, bit(found.loose))?;
+    test_io::text(to, b" ")?;
+    test_io::hex(to, &bytes[0..len])?;
+    test_io::text(to, b"\n")
 }
 
 // The bytes of a block, if all of it is inside the buffer.
-fn block(buffer: &[u8], number: u64)
+fn block<W: Write>(to: &mut W, buffer: &[u8], number: u64) -> io::Result<()>
     requires { length buffer.now ≤ 24576 }
 {
-    test_io::text(b"BLOCK ");
-    block_bytes(buffer, number);
+    test_io::text(to, b"BLOCK ")?;
+    block_bytes(to, buffer, number)
 }
 
-fn block_bytes(buffer: &[u8], number: u64)
+fn block_bytes<W: Write>(to: &mut W, buffer: &[u8], number: u64) -> io::Result<()>
     requires { length buffer.now ≤ 24576 }
 {
     let at = BLOCK * least(number, CAPACITY);
     if buffer.len() < at + BLOCK {
-        test_io::text(b"-\n");
-        return;
+        return test_io::text(to, b"-\n");
     }
-    test_io::hex(&buffer[at..at + BLOCK]);
-    test_io::text(b"\n");
+    test_io::hex(to, &buffer[at..at + BLOCK])?;
+    test_io::text(to, b"\n")
 }
 
 // Feeds the buffer in pieces of `blocks` blocks.
-fn scan(buffer: &[u8], blocks: u64)
+fn scan<W: Write>(to: &mut W, buffer: &[u8], blocks: u64) -> io::Result<()>
     requires { length buffer.now ≤ 24576 }
 {
     let step = BLOCK * piece(blocks);
     let mut s = Scan::start();
-    let mut at: usize = 0;
-    test_io::text(b"SCAN ");
-    while at < buffer.len() {
-        let end = smaller(at + step, buffer.len());
-        let fed = s.feed(&buffer[at..end]);
-        let answer = fed.answer;
-        if let Outcome::Refused(why) = answer {
-            put_three(base_refusal::number(why), 0, 0);
-            return;
+    test_io::text(to, b"SCAN ")?;
+    for part in buffer.chunks(step) {
+        let fed = s.feed(part);
+        if let Outcome::Refused(why) = fed.answer {
+            return put_three(to, base_refusal::number(why), 0, 0);
         }
         s = fed.next;
-        at = end;
     }
-    put_scan(s);
+    put_scan(to, s)
 }
 
 // Prints the result of a scan of all blocks.
-fn put_scan(s: Scan) {
+fn put_scan<W: Write>(to: &mut W, s: Scan) -> io::Result<()> {
     let stage = s.stage;
     match stage {
-        Stage::Filling => put_three(0, 0, s.rows),
-        Stage::Short => put_three(0, 0, s.rows),
-        Stage::Ended => put_three(0, 0, s.rows),
-        Stage::Wrong(k) => put_three(12, k, 0),
+        Stage::Filling => put_three(to, 0, 0, s.rows),
+        Stage::Short => put_three(to, 0, 0, s.rows),
+        Stage::Ended => put_three(to, 0, 0, s.rows),
+        Stage::Wrong(k) => put_three(to, 12, k, 0),
     }
 }
 
 // ---- salvage
 
 // Salvages into the front of an output filled with EE, and of a list whose numbers are filled with EE.
-fn salvage(buffer: &[u8], out: &mut [u8], list: &mut [u64], r: &[u8])
-    requires { (length out.old ≡ 24576) × (length list.old ≡ 64) × (length r.now ≡ 320) }
+fn salvage<W: Write>(
+    to: &mut W,
+    buffer: &[u8],
+    out: &mut [u8],
+    list: &mut [u64],
+    r: &[u8],
+) -> io::Result<()>
+    requires out_length { length out.old ≡ 24576 }
+    requires list_length { length list.old ≡ 64 }
+    requires r_length { length r.now ≡ 320 }
 {
     fill(out);
     fill_list(list);
@@ -303,12 +339,13 @@ fn salvage(buffer: &[u8], out: &mut [u8], list: &mut [u64], r: &[u8])
     let len = least(block_layout::read_number(&r[5..9]), POSITIONS);
     let done = archive_repack::salvage(buffer, &mut out[0..end], &mut list[0..len]);
     let answer = done.answer;
-    test_io::text(b"SALVAGE ");
+    test_io::text(to, b"SALVAGE ")?;
     put_three(
+        to,
         base_refusal::outcome_number(answer),
         done.dropped,
         done.rows,
-    );
+    )
 }
 
 fn fill(out: &mut [u8]) {
@@ -324,40 +361,41 @@ fn fill_list(list: &mut [u64]) {
 }
 
 // The bytes of a block of the output.
-fn out_block(out: &[u8], number: u64)
+fn out_block<W: Write>(to: &mut W, out: &[u8], number: u64) -> io::Result<()>
     requires { length out.now ≡ 24576 }
 {
-    test_io::text(b"OUT ");
-    block_bytes(out, number);
+    test_io::text(to, b"OUT ")?;
+    block_bytes(to, out, number)
 }
 
-fn put_list(list: &[u64]) {
-    test_io::text(b"LIST");
+fn put_list<W: Write>(to: &mut W, list: &[u64]) -> io::Result<()> {
+    test_io::text(to, b"LIST")?;
     for i in 0..list.len() {
-        put_number(list[i]);
+        put_number(to, list[i])?;
     }
-    test_io::text(b"\n");
+    test_io::text(to, b"\n")
 }
 
 // ---- removal
 
-fn remove(buffer: &mut [u8], r: &[u8])
+fn remove<W: Write>(to: &mut W, buffer: &mut [u8], r: &[u8]) -> io::Result<()>
     requires { length r.now ≡ 320 }
 {
     let mut identities = [0u32; IDENTITIES];
     read_identities(&mut identities, r);
     let count = least(base_numbers::u64_of_byte(r[1]), IDENTITIES);
     let answer = archive_repack::remove(buffer, &identities[0..count]);
-    test_io::text(b"REMOVE ");
+    test_io::text(to, b"REMOVE ")?;
     match answer {
-        Removed::Done(freed) => put_three(0, 0, freed),
-        Removed::Damaged(k) => put_three(12, k, 0),
-        Removed::Refused(why) => put_three(base_refusal::number(why), 0, 0),
+        Removed::Done(freed) => put_three(to, 0, 0, freed),
+        Removed::Damaged(k) => put_three(to, 12, k, 0),
+        Removed::Refused(why) => put_three(to, base_refusal::number(why), 0, 0),
     }
 }
 
 fn read_identities(identities: &mut [u32], r: &[u8])
-    requires { (length identities.old ≡ 70) × (length r.now ≡ 320) }
+    requires identities_length { length identities.old ≡ 70 }
+    requires r_length { length r.now ≡ 320 }
 {
     for i in 0..identities.len() {
         identities[i] = four_bytes(block_layout::read_number(&r[4 + 4 * i..4 + 4 * i + 4]));
@@ -371,43 +409,43 @@ fn four_bytes(n: u64) -> u32 {
 
 // ---- cuts
 
-fn cut(buffer: &mut [u8], r: &[u8])
+fn cut<W: Write>(to: &mut W, buffer: &mut [u8], r: &[u8]) -> io::Result<()>
     requires { length r.now ≡ 320 }
 {
     let rows = block_layout::read_number(&r[1..9]) as usize;
     let answer = archive_cut::cut(buffer, rows);
-    test_io::text(b"CUT ");
+    test_io::text(to, b"CUT ")?;
     match answer {
-        ArchiveOutcome::Done => put_three(0, 0, rows),
-        ArchiveOutcome::Damaged(k) => put_three(12, k, 0),
-        ArchiveOutcome::Refused(why) => put_three(base_refusal::number(why), 0, 0),
+        ArchiveOutcome::Done => put_three(to, 0, 0, rows),
+        ArchiveOutcome::Damaged(k) => put_three(to, 12, k, 0),
+        ArchiveOutcome::Refused(why) => put_three(to, base_refusal::number(why), 0, 0),
     }
 }
 
 // ---- what is printed
 
-pub(crate) fn put_outcome(answer: ArchiveOutcome) {
+pub(crate) fn put_outcome<W: Write>(to: &mut W, answer: ArchiveOutcome) -> io::Result<()> {
     match answer {
-        ArchiveOutcome::Done => test_io::text(b"0 0"),
-        ArchiveOutcome::Damaged(k) => put_two(12, k),
-        ArchiveOutcome::Refused(why) => put_two(base_refusal::number(why), 0),
+        ArchiveOutcome::Done => test_io::text(to, b"0 0"),
+        ArchiveOutcome::Damaged(k) => put_two(to, 12, k),
+        ArchiveOutcome::Refused(why) => put_two(to, base_refusal::number(why), 0),
     }
 }
 
-fn put_two(number: u8, position: usize) {
-    test_io::decimal(number as u64);
-    put_number(position as u64);
+fn put_two<W: Write>(to: &mut W, number: u8, position: usize) -> io::Result<()> {
+    test_io::decimal(to, number as u64)?;
+    put_number(to, position as u64)
 }
 
-fn put_three(number: u8, position: usize, rows: usize) {
-    put_two(number, position);
-    put_number(rows as u64);
-    test_io::text(b"\n");
+fn put_three<W: Write>(to: &mut W, number: u8, position: usize, rows: usize) -> io::Result<()> {
+    put_two(to, number, position)?;
+    put_number(to, rows as u64)?;
+    test_io::text(to, b"\n")
 }
 
-pub(crate) fn put_number(n: u64) {
-    test_io::text(b" ");
-    test_io::decimal(n);
+pub(crate) fn put_number<W: Write>(to: &mut W, n: u64) -> io::Result<()> {
+    test_io::text(to, b" ")?;
+    test_io::decimal(to, n)
 }
 
 fn bit(b: bool) -> u64 {
@@ -438,7 +476,8 @@ fn smaller(n: usize, m: usize) -> usize
 
 // The number of blocks in a piece: at least one, and no more than the buffer has.
 fn piece(blocks: u64) -> usize
-    ensures { (0 < result) × (result ≤ 48) }
+    ensures low { 0 < result }
+    ensures high { result ≤ 48 }
 {
     let n = least(blocks, 48);
     if n == 0 {

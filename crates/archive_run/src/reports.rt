@@ -2,6 +2,8 @@
 ghost use Rattle.std.specs.Prelude.{◌≡◌, ◌≤◌, length};
 
 use archive_report::{LineAt, Looked, Report, Share};
+use std::io;
+use std::io::Write;
 
 // The last index of the array of lines.
 const LAST: usize = 1279;
@@ -11,85 +13,90 @@ pub(crate) fn is_call(operation: u8) -> bool {
     (13 <= operation) & (operation <= 17)
 }
 
-pub(crate) fn call(buffer: &[u8], report: Report, r: &[u8]) -> Report
+pub(crate) fn call<W: Write>(
+    to: &mut W,
+    buffer: &[u8],
+    report: Report,
+    r: &[u8],
+) -> io::Result<Report>
     requires { length r.now ≡ 320 }
 {
     let operation = r[0];
     match operation {
-        13 => emptied(),
-        14 => added(buffer, report),
-        15 => line(report, block_layout::read_number(&r[1..9])),
-        16 => share(report, block_layout::read_number(&r[1..9])),
-        _ => spoiled(report, r),
+        13 => emptied(to),
+        14 => added(to, buffer, report),
+        15 => line(to, report, block_layout::read_number(&r[1..9])),
+        16 => share(to, report, block_layout::read_number(&r[1..9])),
+        _ => spoiled(to, report, r),
     }
 }
 
-fn emptied() -> Report {
-    test_io::text(b"REPORT\n");
-    Report::empty()
+fn emptied<W: Write>(to: &mut W) -> io::Result<Report> {
+    test_io::text(to, b"REPORT\n")?;
+    Ok(Report::empty())
 }
 
-fn added(buffer: &[u8], report: Report) -> Report {
+fn added<W: Write>(to: &mut W, buffer: &[u8], report: Report) -> io::Result<Report> {
     let r = report.add(buffer);
     let answer = r.answer;
     let next = r.next;
-    test_io::text(b"ADD ");
-    crate::put_outcome(answer);
-    crate::put_number(next.archives as u64);
-    crate::put_number(next.count as u64);
-    crate::put_number(next.kept);
-    crate::put_number(next.loose);
-    test_io::text(b"\n");
-    next
+    test_io::text(to, b"ADD ")?;
+    crate::put_outcome(to, answer)?;
+    crate::put_number(to, next.archives as u64)?;
+    crate::put_number(to, next.count as u64)?;
+    crate::put_number(to, next.kept)?;
+    crate::put_number(to, next.loose)?;
+    test_io::text(to, b"\n")?;
+    Ok(next)
 }
 
-fn line(report: Report, index: u64) -> Report {
+fn line<W: Write>(to: &mut W, report: Report, index: u64) -> io::Result<Report> {
     let found = report.line(index as usize);
     let answer = found.answer;
-    test_io::text(b"LINE ");
+    test_io::text(to, b"LINE ")?;
     match answer {
-        Looked::Line => test_io::text(b"0"),
-        Looked::Refused(why) => test_io::decimal(base_refusal::number(why) as u64),
+        Looked::Line => test_io::text(to, b"0")?,
+        Looked::Refused(why) => test_io::decimal(to, base_refusal::number(why) as u64)?,
     }
-    put_line(found);
-    report
+    put_line(to, found)?;
+    Ok(report)
 }
 
-fn put_line(found: LineAt) {
-    crate::put_number(found.identity);
-    crate::put_number(found.kept);
-    crate::put_number(found.loose);
-    crate::put_number(found.earliest);
-    crate::put_number(found.latest);
-    test_io::text(b"\n");
+fn put_line<W: Write>(to: &mut W, found: LineAt) -> io::Result<()> {
+    crate::put_number(to, found.identity)?;
+    crate::put_number(to, found.kept)?;
+    crate::put_number(to, found.loose)?;
+    crate::put_number(to, found.earliest)?;
+    crate::put_number(to, found.latest)?;
+    test_io::text(to, b"\n")
 }
 
-fn share(report: Report, received: u64) -> Report {
+fn share<W: Write>(to: &mut W, report: Report, received: u64) -> io::Result<Report> {
     let answer = report.share(received);
-    test_io::text(b"SHARE ");
+    test_io::text(to, b"SHARE ")?;
     match answer {
-        Share::PerMille(t) => put_pair(0, t),
-        Share::Refused(why) => put_pair(base_refusal::number(why), 0),
+        Share::PerMille(t) => put_pair(to, 0, t)?,
+        Share::Refused(why) => put_pair(to, base_refusal::number(why), 0)?,
     }
-    test_io::text(b"\n");
-    report
+    test_io::text(to, b"\n")?;
+    Ok(report)
 }
 
 // The report with one field overwritten.
-fn spoiled(report: Report, r: &[u8]) -> Report
+fn spoiled<W: Write>(to: &mut W, report: Report, r: &[u8]) -> io::Result<Report>
     requires { length r.now ≡ 320 }
 {
     let field = r[1];
     let index = crate::least(block_layout::read_number(&r[2..4]), LAST);
     let value = block_layout::read_number(&r[8..16]);
-    test_io::text(b"SPOIL\n");
-    match field {
+    test_io::text(to, b"SPOIL\n")?;
+    Ok(match field {
         0 => with_archives(report, value as usize),
         1 => with_count(report, value as usize),
         2 => with_kept(report, value),
         3 => with_loose(report, value),
         _ => with_number(report, index, value),
-    }
+    })
 }
 
 fn with_archives(mut report: Report, archives: usize) -> Report {
@@ -126,7 +133,7 @@ fn with_number(report: Report, index: usize, value: u64) -> Report
     }
 }
 
-fn put_pair(number: u8, n: u64) {
-    test_io::decimal(number as u64);
-    crate::put_number(n);
+fn put_pair<W: Write>(to: &mut W, number: u8, n: u64) -> io::Result<()> {
+    test_io::decimal(to, number as u64)?;
+    crate::put_number(to, n)
 }

@@ -1,10 +1,14 @@
 // Runs the codec on the records of standard input, a line of 128 hexadecimal digits each, and prints a line for each. The output must equal that of
 // the second program (tests/reference/README.md has the format).
+#![tactic(auto)]
+
 ghost use Rattle.std.specs.Prelude.{◌≡◌, ◌≤◌, length};
 
 use radio_erp1::Checked;
 use radio_telegram::fields::Telegram;
 use radio_telegram::frame::Built;
+use std::io;
+use std::io::{BufWriter, Read, Write};
 
 const LINE: usize = 129;
 
@@ -14,47 +18,46 @@ const MOST: usize = 28;
 
 const LONGEST: usize = 1024;
 
-fn main() {
-    records(1_000_000);
+fn main(rt: HostRuntime) -> io::Result<()> {
+    let mut to = BufWriter::new(rt.alloc(), io::writer(&rt))?;
+    records(&mut rt.reader(), &mut to, 1_000_000)?;
+    to.flush()
 }
 
 // Handles at most `most` records, until the input ends.
-fn records(most: u64) {
-    let mut left = most;
-    while 0 < left {
-        left -= 1;
-        if !record() {
-            left = 0;
+fn records<R: Read, W: Write>(input: &mut R, to: &mut W, most: u64) -> io::Result<()> {
+    for _ in 0..most {
+        if !record(input, to)? {
+            break;
         }
     }
+    Ok(())
 }
 
 // Handles one record, if there is one more.
-fn record() -> bool {
-    let next = test_io::next_record();
-    if !next.more {
-        return false;
+fn record<R: Read, W: Write>(input: &mut R, to: &mut W) -> io::Result<bool> {
+    let next = test_io::next_record(input)?;
+    if next.more {
+        answer(to, &next.bytes)?;
     }
-    let r = next.bytes;
-    answer(&r);
-    true
+    Ok(next.more)
 }
 
-fn answer(r: &[u8])
+fn answer<W: Write>(to: &mut W, r: &[u8]) -> io::Result<()>
     requires { length r.now ≡ 64 }
 {
     let operation = r[0];
     match operation {
-        1 => crc(r),
-        2 => read(r),
-        3 | 4 | 5 => output(r),
-        6 => repeat(r),
-        _ => same(r),
+        1 => crc(to, r)?,
+        2 => read(to, r)?,
+        3 | 4 | 5 => output(to, r)?,
+        6 => repeat(to, r)?,
+        _ => same(to, r)?,
     }
-    test_io::text(b"\n");
+    test_io::text(to, b"\n")
 }
 
-fn crc(r: &[u8])
+fn crc<W: Write>(to: &mut W, r: &[u8]) -> io::Result<()>
     requires { length r.now ≡ 64 }
 {
     let n = least(
@@ -62,13 +65,16 @@ fn crc(r: &[u8])
         LONGEST,
     );
     let input = repeated(r, n, pattern_length(base_numbers::usize_of_byte(r[3])));
-    test_io::text(b"CRC ");
-    test_io::byte(base_crc8::crc8(&input[0..n]));
+    test_io::text(to, b"CRC ")?;
+    test_io::byte(to, base_crc8::crc8(&input[0..n]))
 }
 
 // The pattern of p bytes at 8, repeated to n bytes.
 fn repeated(r: &[u8], n: usize, p: usize) -> [u8; LONGEST]
-    requires { (length r.now ≡ 64) × (n ≤ 1024) × (1 ≤ p) × (p ≤ 28) }
+    requires r_length { length r.now ≡ 64 }
+    requires n_bound { n ≤ 1024 }
+    requires p_low { 1 ≤ p }
+    requires p_high { p ≤ 28 }
 {
     let mut input = [0u8; LONGEST];
     for i in 0..n {
@@ -79,7 +85,8 @@ fn repeated(r: &[u8], n: usize, p: usize) -> [u8; LONGEST]
 
 // A length from 1 to 28: 1 for 0, and 28 for more.
 fn pattern_length(len: usize) -> usize
-    ensures { (1 ≤ result) × (result ≤ 28) }
+    ensures low { 1 ≤ result }
+    ensures high { result ≤ 28 }
 {
     if len == 0 {
         return 1;
@@ -90,7 +97,7 @@ fn pattern_length(len: usize) -> usize
     len
 }
 
-fn read(r: &[u8])
+fn read<W: Write>(to: &mut W, r: &[u8]) -> io::Result<()>
     requires { length r.now ≡ 64 }
 {
     let n = least(base_numbers::usize_of_byte(r[2]), MOST);
@@ -99,34 +106,34 @@ fn read(r: &[u8])
     let checked = reading.checked;
     let destid = t.destid;
     let txid = t.txid;
-    test_io::text(b"READ ");
-    test_io::decimal(checked_number(checked));
-    test_io::text(b" ");
-    test_io::byte(t.rorg);
-    flag(t.addressed);
-    identity(destid);
-    identity(txid);
-    test_io::text(b" ");
-    test_io::byte(t.status);
-    test_io::text(b" ");
-    data(t);
+    test_io::text(to, b"READ ")?;
+    test_io::decimal(to, checked_number(checked))?;
+    test_io::text(to, b" ")?;
+    test_io::byte(to, t.rorg)?;
+    flag(to, t.addressed)?;
+    identity(to, destid)?;
+    identity(to, txid)?;
+    test_io::text(to, b" ")?;
+    test_io::byte(to, t.status)?;
+    test_io::text(to, b" ")?;
+    data(to, t)
 }
 
 // The three calls that write, into an output of the capacity in the record.
-fn output(r: &[u8])
+fn output<W: Write>(to: &mut W, r: &[u8]) -> io::Result<()>
     requires { length r.now ≡ 64 }
 {
     let capacity = least(base_numbers::usize_of_byte(r[1]), MOST);
     let mut out = [0xEEu8; MOST];
     let operation = r[0];
     match operation {
-        3 => build(r, &mut out[0..capacity]),
-        4 => encapsulate(r, &mut out[0..capacity]),
-        _ => decapsulate(r, &mut out[0..capacity]),
+        3 => build(to, r, &mut out[0..capacity]),
+        4 => encapsulate(to, r, &mut out[0..capacity]),
+        _ => decapsulate(to, r, &mut out[0..capacity]),
     }
 }
 
-fn build(r: &[u8], out: &mut [u8])
+fn build<W: Write>(to: &mut W, r: &[u8], out: &mut [u8]) -> io::Result<()>
     requires { length r.now ≡ 64 }
 {
     let t = Telegram {
@@ -139,30 +146,30 @@ fn build(r: &[u8], out: &mut [u8])
         status: r[5],
     };
     let built = radio_telegram::fields::build(t, out);
-    test_io::text(b"BUILD ");
-    written(built, out);
+    test_io::text(to, b"BUILD ")?;
+    written(to, built, out)
 }
 
-fn encapsulate(r: &[u8], out: &mut [u8])
+fn encapsulate<W: Write>(to: &mut W, r: &[u8], out: &mut [u8]) -> io::Result<()>
     requires { length r.now ≡ 64 }
 {
     let n = least(base_numbers::usize_of_byte(r[2]), MOST);
     let destid = [r[4], r[5], r[6], r[7]];
     let built = radio_telegram::addressing::encapsulate(&r[8..8 + n], destid, out);
-    test_io::text(b"ENCAPSULATE ");
-    written(built, out);
+    test_io::text(to, b"ENCAPSULATE ")?;
+    written(to, built, out)
 }
 
-fn decapsulate(r: &[u8], out: &mut [u8])
+fn decapsulate<W: Write>(to: &mut W, r: &[u8], out: &mut [u8]) -> io::Result<()>
     requires { length r.now ≡ 64 }
 {
     let n = least(base_numbers::usize_of_byte(r[2]), MOST);
     let built = radio_telegram::addressing::decapsulate(&r[8..8 + n], out);
-    test_io::text(b"DECAPSULATE ");
-    written(built, out);
+    test_io::text(to, b"DECAPSULATE ")?;
+    written(to, built, out)
 }
 
-fn repeat(r: &[u8])
+fn repeat<W: Write>(to: &mut W, r: &[u8]) -> io::Result<()>
     requires { length r.now ≡ 64 }
 {
     let n = least(base_numbers::usize_of_byte(r[2]), MOST);
@@ -170,39 +177,39 @@ fn repeat(r: &[u8])
     let answer = repeated.answer;
     let sent = repeated.sent;
     let bytes = sent.bytes;
-    test_io::text(b"REPEAT ");
-    test_io::decimal(checked_number(answer));
-    test_io::text(b" ");
-    test_io::decimal(sent.len as u64);
-    test_io::text(b" ");
-    test_io::hex(&bytes);
+    test_io::text(to, b"REPEAT ")?;
+    test_io::decimal(to, checked_number(answer))?;
+    test_io::text(to, b" ")?;
+    test_io::decimal(to, sent.len as u64)?;
+    test_io::text(to, b" ")?;
+    test_io::hex(to, &bytes)
 }
 
-fn same(r: &[u8])
+fn same<W: Write>(to: &mut W, r: &[u8]) -> io::Result<()>
     requires { length r.now ≡ 64 }
 {
     let n = least(base_numbers::usize_of_byte(r[2]), MOST);
     let m = least(base_numbers::usize_of_byte(r[3]), MOST);
-    test_io::text(b"SAME");
-    flag(radio_erp1::same(&r[8..8 + n], &r[36..36 + m]));
+    test_io::text(to, b"SAME")?;
+    flag(to, radio_erp1::same(&r[8..8 + n], &r[36..36 + m]))
 }
 
 // ---- what is printed for an answer
 
 // The number, the length and all of the output.
-fn written(built: Built, out: &[u8]) {
+fn written<W: Write>(to: &mut W, built: Built, out: &[u8]) -> io::Result<()> {
     match built {
         Built::Done(n) => {
-            test_io::text(b"0 ");
-            test_io::decimal(n as u64);
+            test_io::text(to, b"0 ")?;
+            test_io::decimal(to, n as u64)?;
         }
         Built::Refused(why) => {
-            test_io::decimal(base_refusal::number(why) as u64);
-            test_io::text(b" 0");
+            test_io::decimal(to, base_refusal::number(why) as u64)?;
+            test_io::text(to, b" 0")?;
         }
     }
-    test_io::text(b" ");
-    test_io::hex(out);
+    test_io::text(to, b" ")?;
+    test_io::hex(to, out)
 }
 
 fn checked_number(checked: Checked) -> u64 {
@@ -212,36 +219,33 @@ fn checked_number(checked: Checked) -> u64 {
     }
 }
 
-fn flag(set: bool) {
-    if set {
-        test_io::text(b" 1");
-    } else {
-        test_io::text(b" 0");
-    }
+fn flag<W: Write>(to: &mut W, set: bool) -> io::Result<()> {
+    test_io::text(to, if set { b" 1" } else { b" 0" })
 }
 
-fn identity(id: [u8; 4]) {
-    test_io::text(b" ");
-    test_io::hex(&id);
+fn identity<W: Write>(to: &mut W, id: [u8; 4]) -> io::Result<()> {
+    test_io::text(to, b" ")?;
+    test_io::hex(to, &id)
 }
 
 // DATA without its zero fill.
-fn data(t: Telegram) {
+fn data<W: Write>(to: &mut W, t: Telegram) -> io::Result<()> {
     let payload = t.payload;
     let n = least(t.len, 14);
-    test_io::hex(&payload[0..n]);
+    test_io::hex(to, &payload[0..n])
 }
 
 fn payload(part: &[u8]) -> [u8; 14]
     requires { length part.now ≡ 14 }
 {
     let mut bytes = [0u8; 14];
-    base_bytes::copy(part, &mut bytes);
+    bytes.copy_from_slice(part);
     bytes
 }
 
 fn least(x: usize, y: usize) -> usize
-    ensures { (result ≤ x) × (result ≤ y) }
+    ensures first { result ≤ x }
+    ensures second { result ≤ y }
 {
     if x < y { x } else { y }
 }

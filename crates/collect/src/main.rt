@@ -1,4 +1,8 @@
 // The program `collect` (document 01, "Cases"): reads receptions from standard input, and prints their rows and the totals.
-fn main() {
-    text_driver::run();
+#![tactic(auto)]
+
+use std::process::ExitCode;
+
+fn main(rt: HostRuntime) -> ExitCode {
+    text_driver::run(&rt)
 }

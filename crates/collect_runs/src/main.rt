@@ -1,23 +1,25 @@
 // Runs `collect` on each file that an argument names, under a line with its name.
-use libc::STDOUT_FILENO;
+#![tactic(auto)]
 
-fn main() {
-    for i in 1..os::arg_count() {
-        run_file(i);
+use std::rt::Files;
+use std::{env, fs, io};
+
+fn main(rt: HostRuntime) -> io::Result<()> {
+    for name in env::args(&rt)?.skip(1) {
+        run_file(&rt, name.as_str())?;
     }
+    Ok(())
 }
 
-fn run_file(i: usize) {
-    let mut name = io::buffer();
-    let n = os::arg(i, &mut name);
-    io::write_all(STDOUT_FILENO, b"== ");
-    io::write_all(STDOUT_FILENO, &name[..n]);
-    io::write_all(STDOUT_FILENO, b"\n");
-    let input = os::open_read(&name[..n]);
-    if input < 0 {
-        os::fail(&name[..n]);
-        return;
+fn run_file<R: Files + Print + Eprint>(rt: &R, name: &str) -> io::Result<()> {
+    println!(rt; "== {name}")?;
+    match fs::open(rt, name) {
+        Ok(mut input) => {
+            if let Err(failure) = text_driver::run_on(&mut input, &mut io::writer(rt)) {
+                text_driver::tell(rt, failure);
+            }
+            Ok(())
+        }
+        Err(e) => eprintln!(rt; "{name}: {e}"),
     }
-    text_driver::run_on(input);
-    libc::close(input);
 }

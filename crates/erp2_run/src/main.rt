@@ -1,93 +1,93 @@
 // Runs the ERP2 codec on the records of standard input, a line of 640 hexadecimal digits each, and prints a line for each. The output must equal that
 // of the second program (tests/reference/README.md has the format).
+#![tactic(auto)]
+
 ghost use Rattle.std.specs.Prelude.{◌≡◌, ◌≤◌, length};
 
 use radio_erp1::Checked;
 use radio_erp2_model::{Destination, Extension, Header, MAX_DATA, MAX_OPTIONAL, Subtype, Telegram};
 use radio_telegram::frame::Built;
+use std::io;
+use std::io::{BufWriter, Read, Write};
 
 // The largest number of bytes to read in a record, and of an output.
 const MOST: usize = 300;
 
-fn main() {
-    records(1_000_000);
+fn main(rt: HostRuntime) -> io::Result<()> {
+    let mut to = BufWriter::new(rt.alloc(), io::writer(&rt))?;
+    records(&mut rt.reader(), &mut to, 1_000_000)?;
+    to.flush()
 }
 
 // Handles at most `most` records, until the input ends.
-fn records(most: u64) {
-    let mut left = most;
-    while 0 < left {
-        left -= 1;
-        if !record() {
-            left = 0;
+fn records<R: Read, W: Write>(input: &mut R, to: &mut W, most: u64) -> io::Result<()> {
+    for _ in 0..most {
+        if !record(input, to)? {
+            break;
         }
     }
+    Ok(())
 }
 
 // A record; `more` is false after the last one.
-#[derive(Clone, Copy)]
+#[derive(Drop)]
 struct Input {
     more: bool,
     bytes: [u8; test_io::LONG],
 }
 
 // Handles one record, if there is one more.
-fn record() -> bool {
-    let next = next();
-    if !next.more {
-        return false;
+fn record<R: Read, W: Write>(input: &mut R, to: &mut W) -> io::Result<bool> {
+    let next = next(input)?;
+    if next.more {
+        answer(to, &next.bytes)?;
     }
-    let r = next.bytes;
-    answer(&r);
-    true
+    Ok(next.more)
 }
 
-fn next() -> Input {
+fn next<R: Read>(input: &mut R) -> io::Result<Input> {
     let mut bytes = [0u8; test_io::LONG];
-    let more = test_io::next_long_record(&mut bytes);
-    Input {
-        more: more,
-        bytes: bytes,
-    }
+    let more = test_io::next_long_record(input, &mut bytes)?;
+    Ok(Input { more, bytes })
 }
 
-fn answer(r: &[u8])
+fn answer<W: Write>(to: &mut W, r: &[u8]) -> io::Result<()>
     requires { length r.now ≡ 320 }
 {
     if r[0] == 1 {
-        read(r);
+        read(to, r)?;
     } else {
-        build(r);
+        build(to, r)?;
     }
-    test_io::text(b"\n");
+    test_io::text(to, b"\n")
 }
 
-fn read(r: &[u8])
+fn read<W: Write>(to: &mut W, r: &[u8]) -> io::Result<()>
     requires { length r.now ≡ 320 }
 {
     let n = least(pair(r[1], r[2]), MOST);
     let reading = radio_erp2::read(&r[8..8 + n]);
     let t = reading.telegram;
     let checked = reading.checked;
-    test_io::text(b"READ ");
-    test_io::decimal(checked_number(checked));
-    show(t);
+    test_io::text(to, b"READ ")?;
+    test_io::decimal(to, checked_number(checked))?;
+    show(to, t)
 }
 
 // Builds into an output of the capacity in the record.
-fn build(r: &[u8])
+fn build<W: Write>(to: &mut W, r: &[u8]) -> io::Result<()>
     requires { length r.now ≡ 320 }
 {
     let capacity = least(pair(r[1], r[2]), MOST);
     let mut out = [0xEEu8; MOST];
-    build_into(ordered(r), &mut out[0..capacity]);
+    build_into(to, ordered(r), &mut out[0..capacity])
 }
 
 // Prints the answer, and all of the output.
-fn build_into(t: Telegram, out: &mut [u8]) {
+fn build_into<W: Write>(to: &mut W, t: Telegram, out: &mut [u8]) -> io::Result<()> {
     let built = radio_erp2::build(t, out);
-    test_io::text(b"BUILD ");
-    written(built, out);
+    test_io::text(to, b"BUILD ")?;
+    written(to, built, out)
 }
 
 // The telegram that a record describes.
@@ -133,7 +133,7 @@ fn payload_of(part: &[u8]) -> [u8; MAX_DATA]
     requires { length part.now ≡ 250 }
 {
     let mut bytes = [0u8; MAX_DATA];
-    base_bytes::copy(part, &mut bytes);
+    bytes.copy_from_slice(part);
     bytes
 }
 
@@ -141,7 +141,7 @@ fn optional_of(part: &[u8]) -> [u8; MAX_OPTIONAL]
     requires { length part.now ≡ 15 }
 {
     let mut bytes = [0u8; MAX_OPTIONAL];
-    base_bytes::copy(part, &mut bytes);
+    bytes.copy_from_slice(part);
     bytes
 }
 
@@ -155,88 +155,90 @@ fn checked_number(checked: Checked) -> u64 {
 }
 
 // The number, the length and all of the output.
-fn written(built: Built, out: &[u8]) {
+fn written<W: Write>(to: &mut W, built: Built, out: &[u8]) -> io::Result<()> {
     match built {
         Built::Done(n) => {
-            test_io::text(b"0 ");
-            test_io::decimal(n as u64);
+            test_io::text(to, b"0 ")?;
+            test_io::decimal(to, n as u64)?;
         }
         Built::Refused(why) => {
-            test_io::decimal(base_refusal::number(why) as u64);
-            test_io::text(b" 0");
+            test_io::decimal(to, base_refusal::number(why) as u64)?;
+            test_io::text(to, b" 0")?;
         }
     }
-    test_io::text(b" ");
-    test_io::hex(out);
+    test_io::text(to, b" ")?;
+    test_io::hex(to, out)
 }
 
-fn show(t: Telegram) {
-    show_head(t.short, t.header, t.extension, t.subtype);
-    identity(t.originator);
-    flag(t.destination.present);
-    destination(t.destination.id as u64);
-    data(t);
-    optional(t);
+fn show<W: Write>(to: &mut W, t: Telegram) -> io::Result<()> {
+    show_head(to, t.short, t.header, t.extension, t.subtype)?;
+    identity(to, t.originator)?;
+    flag(to, t.destination.present)?;
+    destination(to, t.destination.id as u64)?;
+    data(to, t)?;
+    optional(to, t)
 }
 
-fn show_head(short: u8, header: Header, extension: Extension, subtype: Subtype) {
-    small(short);
-    small(header.control);
-    flag(header.extended);
-    small(header.kind);
-    flag(extension.present);
-    small(extension.hops);
-    small(extension.announced);
-    flag(subtype.present);
-    test_io::text(b" ");
-    test_io::byte(subtype.value);
+fn show_head<W: Write>(
+    to: &mut W,
+    short: u8,
+    header: Header,
+    extension: Extension,
+    subtype: Subtype,
+) -> io::Result<()> {
+    small(to, short)?;
+    small(to, header.control)?;
+    flag(to, header.extended)?;
+    small(to, header.kind)?;
+    flag(to, extension.present)?;
+    small(to, extension.hops)?;
+    small(to, extension.announced)?;
+    flag(to, subtype.present)?;
+    test_io::text(to, b" ")?;
+    test_io::byte(to, subtype.value)
 }
 
-fn small(n: u8) {
-    test_io::text(b" ");
-    test_io::decimal(n as u64);
+fn small<W: Write>(to: &mut W, n: u8) -> io::Result<()> {
+    test_io::text(to, b" ")?;
+    test_io::decimal(to, n as u64)
 }
 
-fn flag(set: bool) {
-    if set {
-        test_io::text(b" 1");
-    } else {
-        test_io::text(b" 0");
-    }
+fn flag<W: Write>(to: &mut W, set: bool) -> io::Result<()> {
+    test_io::text(to, if set { b" 1" } else { b" 0" })
 }
 
 // Prints an Originator-ID in 12 digits.
-fn identity(id: u64) {
+fn identity<W: Write>(to: &mut W, id: u64) -> io::Result<()> {
     let mut bytes = [0u8; 6];
     block_layout::put_number(&mut bytes, id);
-    test_io::text(b" ");
-    test_io::hex(&bytes);
+    test_io::text(to, b" ")?;
+    test_io::hex(to, &bytes)
 }
 
 // Prints a Destination-ID in 8 digits.
-fn destination(id: u64) {
+fn destination<W: Write>(to: &mut W, id: u64) -> io::Result<()> {
     let mut bytes = [0u8; 4];
     block_layout::put_number(&mut bytes, id);
-    test_io::text(b" ");
-    test_io::hex(&bytes);
+    test_io::text(to, b" ")?;
+    test_io::hex(to, &bytes)
 }
 
 // Data, and optional data, without their zero fill.
-fn data(t: Telegram) {
+fn data<W: Write>(to: &mut W, t: Telegram) -> io::Result<()> {
     let payload = t.payload;
     let n = least(t.len, MAX_DATA);
-    test_io::text(b" ");
-    test_io::hex(&payload[0..n]);
+    test_io::text(to, b" ")?;
+    test_io::hex(to, &payload[0..n])
 }
 
-fn optional(t: Telegram) {
+fn optional<W: Write>(to: &mut W, t: Telegram) -> io::Result<()> {
     let bytes = t.optional;
     let n = least(
         base_numbers::usize_of_byte(t.extension.announced),
         MAX_OPTIONAL,
     );
-    test_io::text(b" ");
-    test_io::hex(&bytes[0..n]);
+    test_io::text(to, b" ")?;
+    test_io::hex(to, &bytes[0..n])
 }
 
 // ---- numbers
@@ -246,7 +248,8 @@ fn pair(high: u8, low: u8) -> usize {
 }
 
 fn least(x: usize, y: usize) -> usize
-    ensures { (result ≤ x) × (result ≤ y) }
+    ensures first { result ≤ x }
+    ensures second { result ≤ y }
 {
     if x < y { x } else { y }
 }

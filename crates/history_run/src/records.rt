@@ -43,7 +43,8 @@ pub(crate) fn restore(n: usize) -> [u8; history_replay::CALL_LENGTH] {
 
 // A burst of the n records that are lent, with m entries for replies, which hold LOOSE with 21 bytes to send. Byte 12 of its record is the setting.
 pub(crate) fn burst(r: &[u8], n: usize, m: usize) -> [u8; history_replay::CALL_LENGTH]
-    requires { (length r.now ≡ 64) × (n ≤ 259) }
+    requires r_length { length r.now ≡ 64 }
+    requires n_bound { n ≤ 259 }
 {
     let mut call = [FILL; history_replay::CALL_LENGTH];
     call[0] = history_replay::DELIVERING;
@@ -56,7 +57,8 @@ pub(crate) fn burst(r: &[u8], n: usize, m: usize) -> [u8; history_replay::CALL_L
 
 // Where the records begin, how many bytes they are, and the number of entries for replies.
 fn put_lists(call: &mut [u8], n: usize, m: usize)
-    requires { (length call.old ≡ 64) × (n ≤ 259) }
+    requires call_length { length call.old ≡ 64 }
+    requires n_bound { n ≤ 259 }
 {
     block_layout::put_number(&mut call[1..9], 0);
     block_layout::put_number(&mut call[9..17], (history_replay::CALL_LENGTH * n) as u64);

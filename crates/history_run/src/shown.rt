@@ -2,6 +2,8 @@
 ghost use Rattle.std.specs.Prelude.{◌≡◌, ◌≤◌, length};
 
 use crate::least;
+use std::io;
+use std::io::Write;
 
 // The operation, the number and the totals.
 pub(crate) const HEAD: usize = 50;
@@ -23,121 +25,128 @@ const SHOWN: u8 = 3;
 
 // ---- the cells
 
-pub(crate) fn put_answered(cell: &[u8])
+pub(crate) fn put_answered<W: Write>(to: &mut W, cell: &[u8]) -> io::Result<()>
     requires { length cell.now ≡ 81 }
 {
-    test_io::text(b"R ");
-    put_reply(&cell[HEAD..ANSWERED]);
-    put_totals(cell);
+    test_io::text(to, b"R ")?;
+    put_reply(to, &cell[HEAD..ANSWERED])?;
+    put_totals(to, cell)
 }
 
 // Prints the output, which is after the length. Returns how many images are printed then.
-pub(crate) fn put_wrote(shown: u8, cell: &[u8]) -> u8
+pub(crate) fn put_wrote<W: Write>(to: &mut W, shown: u8, cell: &[u8]) -> io::Result<u8>
     requires { 58 ≤ length cell.now }
 {
-    test_io::text(b"P ");
-    put_number(cell);
-    put_digest(&cell[BODY..]);
-    put_totals(cell);
-    put_image(shown, cell[1], &cell[BODY..])
+    test_io::text(to, b"P ")?;
+    put_number(to, cell)?;
+    put_digest(to, &cell[BODY..])?;
+    put_totals(to, cell)?;
+    put_image(to, shown, cell[1], &cell[BODY..])
 }
 
 // Prints the cell of the checkpoint, and that of the restore.
-pub(crate) fn put_cut(cells: &[u8])
+pub(crate) fn put_cut<W: Write>(to: &mut W, cells: &[u8]) -> io::Result<()>
     requires { length cells.now ≡ 2668 }
 {
-    test_io::text(b"C ");
-    put_number(cells);
-    put_restored(b" ", &cells[CUT - HEAD..]);
+    test_io::text(to, b"C ")?;
+    put_number(to, cells)?;
+    put_restored(to, b" ", &cells[CUT - HEAD..])
 }
 
-pub(crate) fn put_restored<'a>(word: &'a [u8], cell: &'a [u8])
+pub(crate) fn put_restored<'a, W: Write>(
+    to: &mut W,
+    word: &'a [u8],
+    cell: &'a [u8],
+) -> io::Result<()>
     requires { 50 ≤ length cell.now }
 {
-    test_io::text(word);
-    put_number(cell);
-    put_totals(cell);
+    test_io::text(to, word)?;
+    put_number(to, cell)?;
+    put_totals(to, cell)
 }
 
 // Prints the first m entries, a line each.
-pub(crate) fn put_delivered(cell: &[u8], m: usize)
-    requires { (length cell.now ≡ 8087) × (m ≤ 259) }
+pub(crate) fn put_delivered<W: Write>(to: &mut W, cell: &[u8], m: usize) -> io::Result<()>
+    requires cell_length { length cell.now ≡ 8087 }
+    requires m_bound { m ≤ 259 }
 {
-    put_restored(b"B ", cell);
+    put_restored(to, b"B ", cell)?;
     for i in 0..m {
-        put_place(cell, i);
+        put_place(to, cell, i)?;
     }
+    Ok(())
 }
 
-fn put_place(cell: &[u8], i: usize)
-    requires { (length cell.now ≡ 8087) × (i ≤ 258) }
+fn put_place<W: Write>(to: &mut W, cell: &[u8], i: usize) -> io::Result<()>
+    requires cell_length { length cell.now ≡ 8087 }
+    requires i_bound { i ≤ 258 }
 {
     let at = BODY + REPLY * i;
-    test_io::text(b"b ");
-    put_reply(&cell[at..at + REPLY]);
-    test_io::text(b"\n");
+    test_io::text(to, b"b ")?;
+    put_reply(to, &cell[at..at + REPLY])?;
+    test_io::text(to, b"\n")
 }
 
-pub(crate) fn put_heard(cell: &[u8])
+pub(crate) fn put_heard<W: Write>(to: &mut W, cell: &[u8]) -> io::Result<()>
     requires { length cell.now ≡ 58 }
 {
-    test_io::text(b"A ");
-    put_number(cell);
-    put_total(&cell[HEAD..BODY]);
-    put_totals(cell);
+    test_io::text(to, b"A ")?;
+    put_number(to, cell)?;
+    put_total(to, &cell[HEAD..BODY])?;
+    put_totals(to, cell)
 }
 
 // ---- their parts
 
-fn put_number(cell: &[u8])
+fn put_number<W: Write>(to: &mut W, cell: &[u8]) -> io::Result<()>
     requires { 50 ≤ length cell.now }
 {
-    test_io::decimal(base_numbers::u64_of_byte(cell[1]));
+    test_io::decimal(to, base_numbers::u64_of_byte(cell[1]))
 }
 
-fn put_totals(cell: &[u8])
+fn put_totals<W: Write>(to: &mut W, cell: &[u8]) -> io::Result<()>
     requires { 50 ≤ length cell.now }
 {
-    put_total(&cell[2..10]);
-    put_total(&cell[10..18]);
-    put_total(&cell[18..26]);
-    put_total(&cell[26..34]);
-    put_total(&cell[34..42]);
-    put_total(&cell[42..50]);
-    test_io::text(b"\n");
+    put_total(to, &cell[2..10])?;
+    put_total(to, &cell[10..18])?;
+    put_total(to, &cell[18..26])?;
+    put_total(to, &cell[26..34])?;
+    put_total(to, &cell[34..42])?;
+    put_total(to, &cell[42..50])?;
+    test_io::text(to, b"\n")
 }
 
-fn put_total(s: &[u8]) {
-    test_io::text(b" ");
-    test_io::decimal(block_layout::read_number(s));
+fn put_total<W: Write>(to: &mut W, s: &[u8]) -> io::Result<()> {
+    test_io::text(to, b" ")?;
+    test_io::decimal(to, block_layout::read_number(s))
 }
 
-fn put_reply(reply: &[u8])
+fn put_reply<W: Write>(to: &mut W, reply: &[u8]) -> io::Result<()>
     requires { length reply.now ≡ 31 }
 {
-    put_answer(reply[0], reply[1]);
+    put_answer(to, reply[0], reply[1])?;
     let n = least(block_layout::read_number(&reply[2..10]), 21);
-    test_io::text(b" ");
-    test_io::hex(&reply[10..10 + n]);
+    test_io::text(to, b" ")?;
+    test_io::hex(to, &reply[10..10 + n])
 }
 
-fn put_answer(form: u8, number: u8) {
+fn put_answer<W: Write>(to: &mut W, form: u8, number: u8) -> io::Result<()> {
     match form {
-        0 => test_io::text(b"KEPT"),
-        1 => test_io::text(b"COPY"),
-        2 => test_io::text(b"LOOSE"),
-        _ => test_io::decimal(base_numbers::u64_of_byte(number)),
+        0 => test_io::text(to, b"KEPT"),
+        1 => test_io::text(to, b"COPY"),
+        2 => test_io::text(to, b"LOOSE"),
+        _ => test_io::decimal(to, base_numbers::u64_of_byte(number)),
     }
 }
 
 // A number made of all the bytes: for each byte, 31 times the number so far, plus the byte, in 32 bits.
-fn put_digest(out: &[u8]) {
+fn put_digest<W: Write>(to: &mut W, out: &[u8]) -> io::Result<()> {
     let mut figure: u64 = 0;
     for i in 0..out.len() {
         figure = mixed(figure, out[i]);
     }
-    test_io::text(b" ");
-    put_word(figure);
+    test_io::text(to, b" ")?;
+    put_word(to, figure)
 }
 
 fn mixed(figure: u64, byte: u8) -> u64 {
@@ -145,25 +154,25 @@ fn mixed(figure: u64, byte: u8) -> u64 {
 }
 
 // Prints the low 32 bits, in eight digits.
-fn put_word(n: u64) {
+fn put_word<W: Write>(to: &mut W, n: u64) -> io::Result<()> {
     let mut word = [0u8; 4];
     block_layout::put_number(&mut word, n);
-    test_io::hex(&word);
+    test_io::hex(to, &word)
 }
 
 // Prints the image of one of the first checkpoints. Returns how many are printed then.
-fn put_image(shown: u8, number: u8, out: &[u8]) -> u8 {
+fn put_image<W: Write>(to: &mut W, shown: u8, number: u8, out: &[u8]) -> io::Result<u8> {
     if number != 0 {
-        return shown;
+        return Ok(shown);
     }
     if SHOWN <= shown {
-        return shown;
+        return Ok(shown);
     }
     if out.len() < crate::IMAGE {
-        return shown;
+        return Ok(shown);
     }
-    test_io::text(b"I ");
-    test_io::hex(&out[0..crate::IMAGE]);
-    test_io::text(b"\n");
-    shown + 1
+    test_io::text(to, b"I ")?;
+    test_io::hex(to, &out[0..crate::IMAGE])?;
+    test_io::text(to, b"\n")?;
+    Ok(shown + 1)
 }

@@ -1,9 +1,12 @@
 // Keeps the log of standard input in an archive of zeros by `history_log::keep`, and prints what that leaves: its number, rows, closings and lines on the
 // first line; then, each on a line of hexadecimal digits, the blocks of the archive, what the log closes, and the tool's state file.
+#![tactic(auto)]
+
 ghost use Rattle.std.specs.Prelude.{◌≡◌, length};
 
 use block_layout::{BLOCK_LENGTH, CELL_LENGTH, CELLS_PER_BLOCK};
-use libc::STDIN_FILENO;
+use std::io;
+use std::io::{BufWriter, Write};
 
 // A longer log is cut there.
 const LOG: usize = 131_072;
@@ -12,24 +15,26 @@ const BLOCKS: usize = 512;
 
 const CLOSINGS: usize = 8_192;
 
-fn main() {
+fn main(rt: HostRuntime) -> io::Result<()> {
     let mut log = log_buffer();
-    let n = io::read_full(STDIN_FILENO, &mut log);
-    keep(&log[0..n]);
+    let n = test_io::read_full(&mut rt.reader(), &mut log)?;
+    let mut to = BufWriter::new(rt.alloc(), io::writer(&rt))?;
+    keep(&mut to, &log[0..n])?;
+    to.flush()
 }
 
-fn keep(log: &[u8]) {
+fn keep<W: Write>(to: &mut W, log: &[u8]) -> io::Result<()> {
     let mut archive = archive_buffer();
     let mut heard = heard_buffer();
     let mut state = [0u8; journal_state::LENGTH];
     let k = history_log::keep(log, &mut archive, &mut heard, b"plant.arc", &mut state);
-    test_io::field(k.number as u64);
-    test_io::field(k.rows as u64);
-    test_io::field(k.closings as u64);
-    test_io::last_field(k.lines as u64);
-    put_front(&archive, archive_length(k.rows));
-    put_front(&heard, heard_length(k.closings));
-    put_state(&state);
+    test_io::field(to, k.number as u64)?;
+    test_io::field(to, k.rows as u64)?;
+    test_io::field(to, k.closings as u64)?;
+    test_io::last_field(to, k.lines as u64)?;
+    put_front(to, &archive, archive_length(k.rows))?;
+    put_front(to, &heard, heard_length(k.closings))?;
+    put_state(to, &state)
 }
 
 // The length of the blocks that have so many rows, or 0 for more rows than the archive can have.
@@ -48,16 +53,16 @@ fn heard_length(closings: usize) -> usize {
     CELL_LENGTH * closings
 }
 
-fn put_state(state: &[u8; journal_state::LENGTH]) {
-    put_front(state, journal_state::LENGTH);
+fn put_state<W: Write>(to: &mut W, state: &[u8; journal_state::LENGTH]) -> io::Result<()> {
+    put_front(to, state, journal_state::LENGTH)
 }
 
 // Prints the first bytes on a line.
-fn put_front(bytes: &[u8], end: usize) {
+fn put_front<W: Write>(to: &mut W, bytes: &[u8], end: usize) -> io::Result<()> {
     if end <= bytes.len() {
-        test_io::hex(&bytes[0..end]);
+        test_io::hex(to, &bytes[0..end])?;
     }
-    test_io::text(b"\n");
+    test_io::text(to, b"\n")
 }
 
 fn log_buffer() -> [u8; LOG]

@@ -1,8 +1,12 @@
 // Prints how many plans are lawful under each timing rule, at each level and for many durations, and what some draws pick. The output must equal that
 // of the second program, which lists all plans.
+#![tactic(auto)]
+
 ghost use Rattle.std.specs.Prelude.{◌≤◌};
 
 use plan_slots::{Planned, SlotPlan};
+use std::io;
+use std::io::{BufWriter, Write};
 use test_io::{field, last_field, one_if};
 
 // The durations that are tried, in microseconds: near the longest that have a plan, and near multiples of a slot.
@@ -24,63 +28,71 @@ const DRAWS: [u64; 9] = [
     18_446_744_073_709_551_615,
 ];
 
-fn main() {
-    durations(plan_rules::STANDARD, 0, 3);
-    durations(plan_rules::STANDARD, 1, 2);
-    durations(plan_rules::STANDARD, 2, 2);
-    durations(plan_rules::COMPRESSED, 0, 3);
-    durations(plan_rules::COMPRESSED, 1, 3);
-    durations(plan_rules::COMPRESSED, 2, 2);
-    durations(plan_rules::PAUSED, 0, 2);
-    durations(plan_rules::PAUSED, 0, 3);
-    durations(plan_rules::PAUSED, 1, 2);
-    durations(plan_rules::PAUSED, 2, 2);
-    refused();
+fn main(rt: HostRuntime) -> io::Result<()> {
+    let mut to = BufWriter::new(rt.alloc(), io::writer(&rt))?;
+    run(&mut to)?;
+    to.flush()
+}
+
+fn run<W: Write>(to: &mut W) -> io::Result<()> {
+    durations(to, plan_rules::STANDARD, 0, 3)?;
+    durations(to, plan_rules::STANDARD, 1, 2)?;
+    durations(to, plan_rules::STANDARD, 2, 2)?;
+    durations(to, plan_rules::COMPRESSED, 0, 3)?;
+    durations(to, plan_rules::COMPRESSED, 1, 3)?;
+    durations(to, plan_rules::COMPRESSED, 2, 2)?;
+    durations(to, plan_rules::PAUSED, 0, 2)?;
+    durations(to, plan_rules::PAUSED, 0, 3)?;
+    durations(to, plan_rules::PAUSED, 1, 2)?;
+    durations(to, plan_rules::PAUSED, 2, 2)?;
+    refused(to)
 }
 
 // A rule at a level with a number of transmissions, for every duration.
-fn durations(rule: u8, level: u8, number: u8) {
+fn durations<W: Write>(to: &mut W, rule: u8, level: u8, number: u8) -> io::Result<()> {
     let all = DURATIONS;
     for i in 0..39 {
-        at(rule, level, number, all[i]);
+        at(to, rule, level, number, all[i])?;
     }
+    Ok(())
 }
 
 // The number of lawful plans, and a line for each draw.
-fn at(rule: u8, level: u8, number: u8, duration: u32) {
-    asked(rule, level, number, duration);
-    last_field(count(rule, level, number, duration));
+fn at<W: Write>(to: &mut W, rule: u8, level: u8, number: u8, duration: u32) -> io::Result<()> {
+    asked(to, rule, level, number, duration)?;
+    last_field(to, count(rule, level, number, duration))?;
     let all = DRAWS;
     for i in 0..9 {
-        drawn(rule, level, number, duration, all[i]);
+        drawn(to, rule, level, number, duration, all[i])?;
     }
+    Ok(())
 }
 
 // Calls that are refused for an argument, and one for which there is no plan.
-fn refused() {
-    drawn(3, 0, 3, 1000, 0);
-    drawn(255, 0, 3, 1000, 0);
-    drawn(0, 3, 3, 1000, 0);
-    drawn(0, 0, 2, 1000, 0);
-    drawn(0, 0, 4, 1000, 0);
-    drawn(0, 1, 3, 1000, 0);
-    drawn(0, 2, 3, 1000, 0);
-    drawn(0, 1, 1, 1000, 0);
-    drawn(1, 0, 2, 1000, 0);
-    drawn(1, 1, 2, 1000, 0);
-    drawn(1, 2, 3, 1000, 0);
-    drawn(1, 2, 0, 1000, 0);
-    drawn(1, 2, 2, 1000, 5);
-    drawn(1, 2, 2, 0, 5);
-    drawn(2, 0, 1, 1000, 0);
-    drawn(2, 0, 4, 1000, 0);
-    drawn(2, 0, 0, 1000, 0);
-    drawn(2, 1, 3, 1000, 0);
-    drawn(2, 2, 3, 1000, 0);
-    drawn(2, 0, 2, 0, 0);
-    drawn(2, 0, 3, 65_536, 0);
-    drawn(2, 0, 255, 1000, 0);
-    drawn(255, 255, 255, 4_294_967_295, 18_446_744_073_709_551_615);
+fn refused<W: Write>(to: &mut W) -> io::Result<()> {
+    drawn(to, 3, 0, 3, 1000, 0)?;
+    drawn(to, 255, 0, 3, 1000, 0)?;
+    drawn(to, 0, 3, 3, 1000, 0)?;
+    drawn(to, 0, 0, 2, 1000, 0)?;
+    drawn(to, 0, 0, 4, 1000, 0)?;
+    drawn(to, 0, 1, 3, 1000, 0)?;
+    drawn(to, 0, 2, 3, 1000, 0)?;
+    drawn(to, 0, 1, 1, 1000, 0)?;
+    drawn(to, 1, 0, 2, 1000, 0)?;
+    drawn(to, 1, 1, 2, 1000, 0)?;
+    drawn(to, 1, 2, 3, 1000, 0)?;
+    drawn(to, 1, 2, 0, 1000, 0)?;
+    drawn(to, 1, 2, 2, 1000, 5)?;
+    drawn(to, 1, 2, 2, 0, 5)?;
+    drawn(to, 2, 0, 1, 1000, 0)?;
+    drawn(to, 2, 0, 4, 1000, 0)?;
+    drawn(to, 2, 0, 0, 1000, 0)?;
+    drawn(to, 2, 1, 3, 1000, 0)?;
+    drawn(to, 2, 2, 3, 1000, 0)?;
+    drawn(to, 2, 0, 2, 0, 0)?;
+    drawn(to, 2, 0, 3, 65_536, 0)?;
+    drawn(to, 2, 0, 255, 1000, 0)?;
+    drawn(to, 255, 255, 255, 4_294_967_295, 18_446_744_073_709_551_615)
 }
 
 // How many plans with slots 0 to 39 are lawful; the third is 255 if two transmissions are requested.
@@ -117,32 +129,39 @@ fn candidate(number: u8, i: u32) -> SlotPlan {
 }
 
 // The answer to a draw.
-fn drawn(rule: u8, level: u8, number: u8, duration: u32, draw: u64) {
-    asked(rule, level, number, duration);
-    field(draw);
+fn drawn<W: Write>(
+    to: &mut W,
+    rule: u8,
+    level: u8,
+    number: u8,
+    duration: u32,
+    draw: u64,
+) -> io::Result<()> {
+    asked(to, rule, level, number, duration)?;
+    field(to, draw)?;
     match plan_rules::plan_by(rule, level, number, duration, draw) {
-        Planned::Slots(p) => answer(0, p),
+        Planned::Slots(p) => answer(to, 0, p),
         Planned::Refused(e) => {
             let none = SlotPlan {
                 first: 0,
                 second: 0,
                 third: 0,
             };
-            answer(base_refusal::number(e), none)
+            answer(to, base_refusal::number(e), none)
         }
     }
 }
 
-fn asked(rule: u8, level: u8, number: u8, duration: u32) {
-    field(rule as u64);
-    field(level as u64);
-    field(number as u64);
-    field(duration as u64);
+fn asked<W: Write>(to: &mut W, rule: u8, level: u8, number: u8, duration: u32) -> io::Result<()> {
+    field(to, rule as u64)?;
+    field(to, level as u64)?;
+    field(to, number as u64)?;
+    field(to, duration as u64)
 }
 
-fn answer(number: u8, p: SlotPlan) {
-    field(number as u64);
-    field(p.first as u64);
-    field(p.second as u64);
-    last_field(p.third as u64);
+fn answer<W: Write>(to: &mut W, number: u8, p: SlotPlan) -> io::Result<()> {
+    field(to, number as u64)?;
+    field(to, p.first as u64)?;
+    field(to, p.second as u64)?;
+    last_field(to, p.third as u64)
 }

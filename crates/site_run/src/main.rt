@@ -1,60 +1,69 @@
 // Runs the check of a site on the long records of standard input, and prints a line for each. The output must equal that of the second program
 // (tests/reference/README.md has the format).
+#![tactic(auto)]
+
 ghost use Rattle.std.specs.Prelude.{◌≤◌};
 
 use plan_site::Verdict;
+use std::io;
+use std::io::{BufWriter, Read, Write};
 use test_io::{LONG, field, last_field};
 
-fn main() {
-    records(1_000_000);
+fn main(rt: HostRuntime) -> io::Result<()> {
+    let mut to = BufWriter::new(rt.alloc(), io::writer(&rt))?;
+    records(&mut rt.reader(), &mut to, 1_000_000)?;
+    to.flush()
 }
 
 // Handles at most `most` records, until the input ends.
-fn records(most: u64) {
-    let mut left = most;
-    while 0 < left {
-        left -= 1;
-        if !record() {
-            left = 0;
+fn records<R: Read, W: Write>(input: &mut R, to: &mut W, most: u64) -> io::Result<()> {
+    for _ in 0..most {
+        if !record(input, to)? {
+            break;
         }
     }
+    Ok(())
 }
 
 // Handles one record, if there is one more.
-fn record() -> bool {
+fn record<R: Read, W: Write>(input: &mut R, to: &mut W) -> io::Result<bool> {
     let mut bytes = [0u8; LONG];
-    let more = test_io::next_long_record(&mut bytes);
+    let more = test_io::next_long_record(input, &mut bytes)?;
     if more {
-        answer(&bytes);
+        answer(to, &bytes)?;
     }
-    more
+    Ok(more)
 }
 
 // Checks the repeaters of the record. If the count is over 33, it checks the first 33, which are refused in the same way.
-fn answer(r: &[u8; LONG]) {
+fn answer<W: Write>(to: &mut W, r: &[u8; LONG]) -> io::Result<()> {
     let whole = &r[..];
     let count = smaller(whole[0] as usize, plan_site::MAX_REPEATERS + 1);
-    show(plan_site::check_bytes(&whole[8..8 + plan_site::SIZE * count]));
+    show(
+        to,
+        plan_site::check_bytes(&whole[8..8 + plan_site::SIZE * count]),
+    )
 }
 
 fn smaller(x: usize, y: usize) -> usize
-    ensures { (result ≤ x) × (result ≤ y) }
+    ensures first { result ≤ x }
+    ensures second { result ≤ y }
 {
     if x < y { x } else { y }
 }
 
-fn show(verdict: Verdict) {
+fn show<W: Write>(to: &mut W, verdict: Verdict) -> io::Result<()> {
     match verdict {
-        Verdict::Accepted => line(0, 0, 0),
-        Verdict::OutOfRange => line(10, 0, 0),
-        Verdict::Unlawful(i) => line(18, i, 0),
-        Verdict::Overlap(i, j) => line(19, i, j),
+        Verdict::Accepted => line(to, 0, 0, 0),
+        Verdict::OutOfRange => line(to, 10, 0, 0),
+        Verdict::Unlawful(i) => line(to, 18, i, 0),
+        Verdict::Overlap(i, j) => line(to, 19, i, j),
     }
 }
 
-fn line(number: u64, repeater: usize, other: usize) {
-    test_io::text(b"SITE ");
-    field(number);
-    field(repeater as u64);
-    last_field(other as u64);
+fn line<W: Write>(to: &mut W, number: u64, repeater: usize, other: usize) -> io::Result<()> {
+    test_io::text(to, b"SITE ")?;
+    field(to, number)?;
+    field(to, repeater as u64)?;
+    last_field(to, other as u64)
 }

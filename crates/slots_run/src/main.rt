@@ -1,58 +1,69 @@
 // Prints how many plans are lawful at each level and for many durations, and what some draws pick. The output must equal that of the second program,
 // which lists all plans.
+#![tactic(auto)]
+
 use plan_slots::{Planned, Rule, SlotPlan};
+use std::io;
+use std::io::{BufWriter, Write};
 use test_io::{field, last_field, one_if};
 
-fn main() {
-    durations(0);
-    durations(1);
-    durations(2);
-    drawn(3, 1000, 0);
-    drawn(0, 0, 0);
-    drawn(0, 65_536, 0);
-    drawn(255, 4_294_967_295, 5);
+fn main(rt: HostRuntime) -> io::Result<()> {
+    let mut to = BufWriter::new(rt.alloc(), io::writer(&rt))?;
+    run(&mut to)?;
+    to.flush()
 }
 
-fn durations(level: u8) {
-    at(level, 1);
-    at(level, 2);
-    at(level, 999);
-    at(level, 1000);
-    at(level, 1001);
-    at(level, 1999);
-    at(level, 2000);
-    at(level, 2001);
-    multiples(level);
-    at(level, 8999);
-    at(level, 9001);
-    at(level, 14_999);
-    at(level, 15_001);
-    at(level, 19_999);
-    at(level, 20_001);
-    at(level, 20_002);
-    at(level, 40_000);
-    at(level, 65_535);
+fn run<W: Write>(to: &mut W) -> io::Result<()> {
+    durations(to, 0)?;
+    durations(to, 1)?;
+    durations(to, 2)?;
+    drawn(to, 3, 1000, 0)?;
+    drawn(to, 0, 0, 0)?;
+    drawn(to, 0, 65_536, 0)?;
+    drawn(to, 255, 4_294_967_295, 5)
+}
+
+fn durations<W: Write>(to: &mut W, level: u8) -> io::Result<()> {
+    at(to, level, 1)?;
+    at(to, level, 2)?;
+    at(to, level, 999)?;
+    at(to, level, 1000)?;
+    at(to, level, 1001)?;
+    at(to, level, 1999)?;
+    at(to, level, 2000)?;
+    at(to, level, 2001)?;
+    multiples(to, level)?;
+    at(to, level, 8999)?;
+    at(to, level, 9001)?;
+    at(to, level, 14_999)?;
+    at(to, level, 15_001)?;
+    at(to, level, 19_999)?;
+    at(to, level, 20_001)?;
+    at(to, level, 20_002)?;
+    at(to, level, 40_000)?;
+    at(to, level, 65_535)
 }
 
 // Every multiple of 250 from 3,000 to 21,000.
-fn multiples(level: u8) {
+fn multiples<W: Write>(to: &mut W, level: u8) -> io::Result<()> {
     for i in 12..85 {
-        at(level, 250 * i);
+        at(to, level, 250 * i)?;
     }
+    Ok(())
 }
 
 // The number of lawful plans, and a line for each draw.
-fn at(level: u8, duration: u32) {
-    field(level as u64);
-    field(duration as u64);
-    last_field(count(level, duration));
-    drawn(level, duration, 0);
-    drawn(level, duration, 1);
-    drawn(level, duration, 2);
-    drawn(level, duration, 3);
-    drawn(level, duration, 7);
-    drawn(level, duration, 12_345_678_901_234_567_890);
-    drawn(level, duration, 18_446_744_073_709_551_615);
+fn at<W: Write>(to: &mut W, level: u8, duration: u32) -> io::Result<()> {
+    field(to, level as u64)?;
+    field(to, duration as u64)?;
+    last_field(to, count(level, duration))?;
+    drawn(to, level, duration, 0)?;
+    drawn(to, level, duration, 1)?;
+    drawn(to, level, duration, 2)?;
+    drawn(to, level, duration, 3)?;
+    drawn(to, level, duration, 7)?;
+    drawn(to, level, duration, 12_345_678_901_234_567_890)?;
+    drawn(to, level, duration, 18_446_744_073_709_551_615)
 }
 
 // How many of the plans with slots 0 to 39 are lawful; the third may also be 255.
@@ -84,26 +95,26 @@ fn candidate(i: u32) -> SlotPlan {
 }
 
 // The answer to a draw.
-fn drawn(level: u8, duration: u32, draw: u64) {
-    field(level as u64);
-    field(duration as u64);
-    field(draw);
+fn drawn<W: Write>(to: &mut W, level: u8, duration: u32, draw: u64) -> io::Result<()> {
+    field(to, level as u64)?;
+    field(to, duration as u64)?;
+    field(to, draw)?;
     match plan_slots::plan(level, duration, draw) {
-        Planned::Slots(p) => answer(0, p),
+        Planned::Slots(p) => answer(to, 0, p),
         Planned::Refused(e) => {
             let none = SlotPlan {
                 first: 0,
                 second: 0,
                 third: 0,
             };
-            answer(base_refusal::number(e), none)
+            answer(to, base_refusal::number(e), none)
         }
     }
 }
 
-fn answer(number: u8, p: SlotPlan) {
-    field(number as u64);
-    field(p.first as u64);
-    field(p.second as u64);
-    last_field(p.third as u64);
+fn answer<W: Write>(to: &mut W, number: u8, p: SlotPlan) -> io::Result<()> {
+    field(to, number as u64)?;
+    field(to, p.first as u64)?;
+    field(to, p.second as u64)?;
+    last_field(to, p.third as u64)
 }

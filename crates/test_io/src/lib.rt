@@ -1,7 +1,10 @@
 // What the test programs have in common: they read records, and print text, numbers and hexadecimal digits.
-ghost use Rattle.std.specs.Prelude.{◌<◌, ◌≤◌, ◌*◌, length};
+#![tactic(auto)]
 
-use libc::{STDIN_FILENO, STDOUT_FILENO};
+ghost use Rattle.std.specs.Prelude.{◌<◌, ◌≤◌, ◌*◌, IfOk, length};
+
+use std::io;
+use std::io::{ErrorKind, Read, Write};
 
 // A record: 64 bytes, a line of 128 upper-case hexadecimal digits in the input. `more` is false after the last one.
 #[derive(Clone, Copy)]
@@ -19,46 +22,68 @@ pub const LONG: usize = 320;
 // The digits of a long record and a newline.
 const LONG_LINE: usize = 641;
 
-// The next record of standard input.
-pub fn next_record() -> Record {
+// The next record of an input.
+pub fn next_record<R: Read>(input: &mut R) -> io::Result<Record> {
     let mut line = [0u8; LINE];
-    let n = io::read_full(STDIN_FILENO, &mut line);
+    let n = read_full(input, &mut line)?;
     let mut bytes = [0u8; 64];
     decode(&line, &mut bytes);
-    Record {
+    Ok(Record {
         more: n == LINE,
-        bytes: bytes,
-    }
+        bytes,
+    })
 }
 
-// Reads the next long record of standard input, a line of 640 upper-case hexadecimal digits, into `bytes`. False after the last one.
-pub fn next_long_record(bytes: &mut [u8; LONG]) -> bool {
+// Reads the next long record of an input, a line of 640 upper-case hexadecimal digits, into `bytes`. False after the last one.
+pub fn next_long_record<R: Read>(input: &mut R, bytes: &mut [u8; LONG]) -> io::Result<bool> {
     let mut line = [0u8; LONG_LINE];
-    let n = io::read_full(STDIN_FILENO, &mut line);
+    let n = read_full(input, &mut line)?;
     decode(&line, bytes);
-    n == LONG_LINE
+    Ok(n == LONG_LINE)
+}
+
+// Reads until the buffer is full or the input ends, and returns how many bytes it put at the start of the buffer.
+pub fn read_full<R: Read>(input: &mut R, buffer: &mut [u8]) -> io::Result<usize>
+    ensures { IfOk result (λ n. n ≤ length buffer.new) }
+{
+    let mut done = 0;
+    for _ in 0..u64::MAX {
+        if done == buffer.len() {
+            break;
+        }
+        match input.read(&mut buffer[done..]) {
+            Ok(0) => break,
+            Ok(n) => done += n,
+            Err(e) => {
+                if e.kind() != ErrorKind::Interrupted {
+                    return Err(e);
+                }
+            }
+        }
+    }
+    Ok(done)
 }
 
 // Prints text as it is.
-pub fn text(s: &[u8]) {
-    io::write_all(STDOUT_FILENO, s);
+pub fn text<W: Write>(to: &mut W, s: &[u8]) -> io::Result<()> {
+    to.write_all(s)
 }
 
 // Prints a number in decimal digits.
-pub fn decimal(n: u64) {
-    io::print_decimal(STDOUT_FILENO, n);
+pub fn decimal<W: Write>(to: &mut W, n: u64) -> io::Result<()> {
+    write!(to, "{n}")
 }
 
 // Prints a number and a space.
-pub fn field(n: u64) {
-    decimal(n);
-    text(b" ");
+pub fn field<W: Write>(to: &mut W, n: u64) -> io::Result<()> {
+    decimal(to, n)?;
+    text(to, b" ")
 }
 
 // Prints a number and a newline.
-pub fn last_field(n: u64) {
-    decimal(n);
-    text(b"\n");
+pub fn last_field<W: Write>(to: &mut W, n: u64) -> io::Result<()> {
+    decimal(to, n)?;
+    text(to, b"\n")
 }
 
 // 1 for true and 0 for false, for counting.
@@ -69,18 +94,19 @@ pub fn one_if(passes: bool) -> u64
 }
 
 // Prints bytes in upper-case hexadecimal digits, or `-` if there are none.
-pub fn hex(s: &[u8]) {
-    if s.len() == 0 {
-        text(b"-");
+pub fn hex<W: Write>(to: &mut W, s: &[u8]) -> io::Result<()> {
+    if s.is_empty() {
+        text(to, b"-")?;
     }
-    for i in 0..s.len() {
-        byte(s[i]);
+    for b in s {
+        byte(to, *b)?;
     }
+    Ok(())
 }
 
 // Prints one byte in two digits.
-pub fn byte(b: u8) {
-    text(&[digit(b / 16), digit(b % 16)]);
+pub fn byte<W: Write>(to: &mut W, b: u8) -> io::Result<()> {
+    text(to, &[digit(b / 16), digit(b % 16)])
 }
 
 // Writes the bytes of a line of digits.
