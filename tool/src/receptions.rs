@@ -20,7 +20,7 @@ use std::path::Path;
 /// How much of a log is read at once, and how many lines are taken.
 const CHUNK: usize = 1 << 20;
 const LINES: usize = 4_096;
-/// How long a telegram is open after its opening, and how long its sender may still send it, in ms: the second is `txMaturity` of
+/// How long a telegram is open after its opening, and how long its sender may still send it, in ms: the second is `tx_maturity` of
 /// crates/collector_model/specs/View.antt.
 const OPEN: u64 = Collector::OPEN_FOR;
 const SENT: u64 = 40;
