@@ -1,4 +1,6 @@
 // What the calls for other languages have in common: the number for a wrong size, and the bytes of a telegram with its length.
+#![tactic(auto)]
+
 ghost use Rattle.std.specs.Prelude.{◌≡◌, List, ℕ};
 ghost use Rattle.base_refusal.specs.Number.{number_of};
 ghost use Rattle.radio_erp1.specs.Subtelegram.{checked_number};

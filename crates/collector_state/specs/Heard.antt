@@ -1,5 +1,4 @@
 -- How often a telegram was heard (document 02, A8): the result of the call.
-use Rattle.std.specs.Prelude.{ℕ}
 use Rattle.base_refusal.specs.Number.{outcome_number}
 use Rattle.collector_model.specs.Heard.{HeardResult}
 use Rattle.collector_state.specs.declared.Heard.{Heard}

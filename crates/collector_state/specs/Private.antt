@@ -1,12 +1,12 @@
 -- What the contracts of private functions say: the test of a state, in the parts in which the code tests it (document
 -- 01, "Parked collector"), and one reception, in the parts in which the code takes it ("Merging"). No public contract
 -- cites these.
-use Rattle.std.specs.Prelude.{ℕ, ◌*◌, ◌+◌, ◌-◌, ◌%◌, ◌≤◌, ◌<◌, List, ◌++◌, get_or, length, take, drop, set, ◌≡◌, Bool, true, false, not, ◌&&◌, cond, leb}
-use Rattle.base_lists.specs.Lists.{all, pairwise, last_index}
+use Rattle.std.specs.Prelude.{ℕ, ◌*◌, ◌+◌, ◌-◌, ◌%◌, ◌≤◌, ◌<◌, List, get_or, length, ◌≡◌, Bool, true, false, not, ◌&&◌, leb}
+use Rattle.base_lists.specs.Lists.{all, pairwise}
 use Rattle.radio_erp1.specs.Subtelegram.{max_length, is_valid}
 use Rattle.base_buffers.specs.Buffer.{part, resized}
 use Rattle.collector_model.specs.declared.Totals.{Totals}
-use Rattle.collector_model.specs.View.{Entry, Reception, opened_by, is_open, capacity, maturity, capped}
+use Rattle.collector_model.specs.View.{Entry, Reception, opened_by, is_open, capacity, maturity}
 use Rattle.collector_model.specs.Acceptable.{is_copy_of, is_summed}
 use Rattle.collector_model.specs.Answer.{Shown, Kept, Copy, Loose, Refused, is_copy}
 use Rattle.collector_model.specs.Step.{max_count, tally}

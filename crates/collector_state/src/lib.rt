@@ -1,5 +1,7 @@
 // The collector merges receptions of one telegram and counts them (document 01, "Merging"). What a repeater sends for a kept reception is a call of
 // its own (document 02, A7).
+#![tactic(auto)]
+
 pub mod acceptable;
 pub(crate) mod entries;
 pub mod merging;

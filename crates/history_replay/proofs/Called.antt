@@ -5,7 +5,7 @@
 use Prim.Native.Nat.{ℕ, ◌/◌, ◌%◌}
 use mathlib.Core.Path.{◌≡◌, refl, sym, ap, ap₂, subst, ◌∙◌}
 use mathlib.Core.Bool.{cond}
-use mathlib.Core.List.{List, [], ◌∷◌, ◌++◌, map, flatten}
+use mathlib.Core.List.{List, [], ◌++◌, map, flatten}
 use lib.Dec.{eqb}
 use lib.ListN.{length, take}
 use Rattle.radio_telegram.specs.declared.frame.Frame.{Frame}
@@ -13,13 +13,13 @@ use Rattle.radio_telegram.specs.Frame.{frame_of}
 use Rattle.radio_telegram.specs.Repeater.{repeat_result}
 use Rattle.block_layout.specs.BigEndian.{be}
 use Rattle.collector_model.specs.declared.Totals.{Totals}
-use Rattle.collector_model.specs.Answer.{Shown, shown_of, shown_number}
+use Rattle.collector_model.specs.Answer.{shown_of, shown_number}
 use Rattle.collector_model.specs.View.{Reception, View, fresh}
-use Rattle.collector_model.specs.Step.{StepOutcome, step, sent_for}
-use Rattle.collector_model.specs.Image.{CheckpointResult, RestoreResult, image_length, checkpoint_of, restore_of}
+use Rattle.collector_model.specs.Step.{StepOutcome, sent_for}
+use Rattle.collector_model.specs.Image.{RestoreResult, image_length, checkpoint_of, restore_of}
 use Rattle.collector_model.specs.Burst.{Replied, BurstResult, burst_of}
 use Rattle.collector_model.specs.Heard.{copies_of}
-use Rattle.collector_model.specs.History.{Call, Receive, Checkpoint, Restore, Cut, Burst, Ask, Look, Restored, run}
+use Rattle.collector_model.specs.History.{Receive, Checkpoint, Restore, Cut, Burst, Ask, Look, Restored}
 use Rattle.collector_state.specs.declared.Collector.{Collector}
 use Rattle.collector_state.specs.declared.Taken.{Taken}
 use Rattle.collector_state.specs.declared.Heard.{Heard}
@@ -34,13 +34,12 @@ use Rattle.collector_burst.specs.Records.{replied_of, bursted_of}
 use Rattle.c_collector.specs.State.{Arrays, state_at, arrays_of}
 use Rattle.c_collector.specs.Calls.{Takes, Fresh, totals_call, copies_call}
 use Rattle.c_checkpoint.specs.Calls.{Restores}
-use Rattle.history_calls.specs.Answers.{form_in, shown_with, shown_in, replies_in_places, totals_in_values}
+use Rattle.history_calls.specs.Answers.{shown_in, replies_in_places, totals_in_values}
 use Rattle.history_calls.specs.Elements.{arrays_after}
 use Rattle.history_calls.proofs.Follow as follow
 use Rattle.history_calls.proofs.Elements as elements
 use Rattle.history_replay_model.specs.Operation.{looking, receiving, restoring, delivering, asking}
-use Rattle.history_replay_model.specs.Record.{head_of, form_of, reply_of, seen_bytes, record_of}
-use Rattle.history_replay_model.specs.Replay.{after_call}
+use Rattle.history_replay_model.specs.Record.{head_of, form_of, reply_of, seen_bytes}
 use Rattle.history_replay_model.proofs.Lengths.{burst_length}
 use Rattle.history_replay.specs.Private.{Called, wrote_of, reply_cell, BurstMade, BurstGiven}
 use Rattle.history_replay.proofs.Lent.{number_in}

@@ -2,13 +2,13 @@
 --     Filled, filled-start, filled_next, filled-end      elements read one after the other
 --     receptions-are, places-are                         what both lists hold
 --     cells, cells-length, cell_at                       the places of the second, as they are written
-use Prim.Native.Nat.{ℕ, zero, suc, ◌+◌, ◌-◌, ◌*◌, ◌/◌, ◌≤◌, ◌<◌, min}
+use Prim.Native.Nat.{ℕ, zero, suc, ◌+◌, ◌*◌, ◌≤◌, ◌<◌}
 use native.Mathlib.Nat.{zero-add}
 use native.Mathlib.Numerals.{add-one}
 use native.Mathlib.Omega.{arith}
 use mathlib.Core.Path.{◌≡◌, refl, sym, ap, ap₂, ◌∙◌}
 use mathlib.Core.List.{List, [], ◌∷◌, ◌++◌, map, map-append}
-use lib.ListN.{length, get_or, take, drop, set, length-set, length-map, length-take, replicate}
+use lib.ListN.{length, get_or, take, set, length-set, length-map, length-take, replicate}
 use lib.Seq.{take-suc, take-set-le, get_or-set_same, get_or-take}
 use Rattle.base_lists.specs.Lists.{up_from}
 use Rattle.base_lists.proofs.Tests.{get_d_map}

@@ -1,6 +1,8 @@
 // Makes a list of calls on a collector, and writes what is seen of each. The calls are lent as records of 64 bytes. The claim on whole histories is
 // about this function (document 01, "One history, and the clerk who writes it down"). The collector is in five lent arrays, and only the calls of the
 // library change it; `values` does the same with the calls by value.
+#![tactic(auto)]
+
 pub(crate) mod calls;
 pub(crate) mod lent_lists;
 pub(crate) mod reading;

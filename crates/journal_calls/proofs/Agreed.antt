@@ -26,7 +26,7 @@ use Rattle.archive_model.specs.Row.{Row}
 use Rattle.archive_model.specs.Append.{no_row}
 use Rattle.archive_fill.specs.Fill.{row_length, row_given, rows_given}
 use Rattle.journal_model.specs.Disk as disk
-use Rattle.journal_calls.specs.Rows.{Compared, compared_rows, compare_call}
+use Rattle.journal_calls.specs.Rows.{compared_rows, compare_call}
 
 -- ---- records
 

@@ -5,7 +5,7 @@ use native.Mathlib.Numerals.{add-one}
 use native.Mathlib.Omega.{arith}
 use mathlib.Core.Path.{◌≡◌, refl, sym, ap, ◌∙◌}
 use mathlib.Core.Bool.{Bool, true, false, cond, not, ◌&&◌, false≢true}
-use mathlib.Core.List.{List, [], ◌∷◌, ◌++◌}
+use mathlib.Core.List.{List, [], ◌∷◌}
 use lib.Dec.{eqb}
 use lib.ListN.{length, length-append}
 use borrow.Author.Tests.{eqb-true, ltb-false, eq-eqb}
@@ -15,7 +15,7 @@ use Rattle.base_lists.proofs.Tests.{by_test}
 use Rattle.base_refusal.specs.Number.{number_of}
 use Rattle.base_refusal.specs.declared.Refusal.TheVariants.{Mismatch}
 use Rattle.block_layout.specs.Block.{cells_per_block, block_length}
-use Rattle.archive_model.specs.Row.{Row, rows_of, row_count, block_number, is_sound, is_blank}
+use Rattle.archive_model.specs.Row.{rows_of, row_count, block_number, is_sound, is_blank}
 use Rattle.archive_model.specs.Buffer.{blocks_for, is_short}
 use Rattle.archive_model.specs.Append.{block_at}
 use Rattle.archive_model.proofs.Exact.{tests}
@@ -24,7 +24,7 @@ use Rattle.archive_file.specs.Archive.{sound_count}
 use Rattle.archive_cut.proofs.Blocks.{block_unsound}
 use Rattle.journal_model.specs.Disk.{State, counted, last_used, is_other, mended, run_from}
 use Rattle.journal_calls.specs.Block.{is_cut_copy_of, judgement_of, judgement_number}
-use Rattle.journal_calls.specs.Run.{Run, start_run, stopped, passed, run_block, run_blocks, run_at, run_numbers}
+use Rattle.journal_calls.specs.Run.{Run, start_run, stopped, passed, run_block, run_blocks}
 use Rattle.journal_calls.specs.Claims.{mended_by, judged, Judged, RunCounts, RunJoins, RunBack}
 use Rattle.journal_calls.proofs.Judged.{copy_is, copy-size}
 use Rattle.journal_calls.proofs.Runs.{block-ended}

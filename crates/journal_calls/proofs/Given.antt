@@ -3,19 +3,18 @@ use Prim.Native.Nat.{ℕ, zero, suc, ◌+◌, ◌-◌, ◌*◌, ◌%◌, ◌^◌
 use native.Mathlib.Nat.{mod-eq_of_lt, mod_self}
 use native.Mathlib.Omega.{arith}
 use mathlib.Core.Path.{◌≡◌, refl, sym, ap, subst, ◌∙◌}
-use mathlib.Core.Bool.{Bool, true, false, cond, ◌&&◌}
+use mathlib.Core.Bool.{Bool, true, false, cond}
 use mathlib.Core.List.{List, [], ◌∷◌, ◌++◌}
 use lib.Dec.{ltb, eqb}
 use lib.ListN.{length, replicate, length-replicate}
 use borrow.Author.Tests.{eqb-true, eqb-false, eq-eqb, lt-ltb}
-use Rattle.base_lists.specs.Lists.{all}
 use Rattle.base_lists.proofs.Tests.{and-true, by_test, all_append}
 use Rattle.radio_erp1.specs.Subtelegram.{check_of, hash_of}
 use Rattle.block_layout.specs.Block.{cells_per_block, block_length}
 use Rattle.archive_model.specs.Row.{Row, rows_block, block_number, row_count, is_row, is_sound}
 use Rattle.archive_model.specs.Buffer.{max_blocks}
 use Rattle.archive_model.proofs.Blocks.{Fits, rows-block-length, number-back, count-back, block_sound}
-use Rattle.journal_calls.specs.Run.{Run, start_run, run_block, run_blocks, is_run}
+use Rattle.journal_calls.specs.Run.{Run, start_run, run_block, run_blocks}
 use Rattle.journal_calls.specs.Claims.{RunAccepted, GivenByBlocks, RunGiven}
 use Rattle.journal_calls.proofs.Claims.{run_joins}
 use Rattle.journal_calls.proofs.Runs.{RunFacts, run_facts, run_is, block_next}

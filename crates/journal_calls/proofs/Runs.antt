@@ -9,21 +9,21 @@ use Prim.Native.Nat.{ℕ, suc, ◌+◌, ◌-◌, ◌*◌, ◌/◌, ◌%◌, ◌�
 use native.Mathlib.Nat.{mod-lt}
 use native.Mathlib.Numerals.{add-one}
 use native.Mathlib.Omega.{arith}
-use mathlib.Core.Path.{◌≡◌, refl, sym, ap, ◌∙◌}
+use mathlib.Core.Path.{◌≡◌, sym, ap, ◌∙◌}
 use mathlib.Core.Bool.{Bool, true, false, ◌&&◌, false≢true}
-use mathlib.Core.List.{List, map}
+use mathlib.Core.List.{List}
 use lib.Dec.{ltb, leb, eqb}
 use lib.ListN.{length}
-use borrow.Author.Tests.{eqb-true, leb-true, ltb-true, ltb-false, eq-eqb, ne_eqb, lt-ltb, le-ltb, le-leb, lt-leb}
+use borrow.Author.Tests.{leb-true, ltb-true, ltb-false, eq-eqb, ne_eqb, lt-ltb, le-ltb, le-leb, lt-leb}
 use Rattle.base_lists.specs.Lists.{up_from}
 use Rattle.base_lists.proofs.Choice.{both}
-use Rattle.base_lists.proofs.Tests.{and-true, by_test, branch}
+use Rattle.base_lists.proofs.Tests.{by_test, branch}
 use Rattle.base_refusal.specs.Number.{number_of}
 use Rattle.base_refusal.specs.declared.Refusal.TheVariants.{NotAccepted, Size}
 use Rattle.base_buffers.specs.Buffer.{part}
 use Rattle.block_layout.specs.Block.{cells_per_block, block_length}
 use Rattle.archive_model.specs.Row.{block_number, row_count, is_sound}
-use Rattle.archive_model.specs.Buffer.{max_blocks, blocks_in, is_short}
+use Rattle.archive_model.specs.Buffer.{max_blocks, blocks_in}
 use Rattle.archive_model.proofs.Exact.{tests}
 use Rattle.archive_file.specs.Archive.{sound_count}
 use Rattle.archive_file.proofs.Scans.{blocks_from}

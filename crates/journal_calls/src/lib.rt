@@ -1,5 +1,7 @@
 // The decisions of the plant's journal: what is in the block with the last row that a state counts, how many leftovers agree with the new rows, and
 // how many blocks from there on read as an archive. Definitions and the crash theorems are in journal_model.
+#![tactic(auto)]
+
 pub mod block;
 pub mod rows;
 pub mod scan;

@@ -4,3 +4,4 @@ pub mod Storing
 pub mod Turns
 pub mod Formatting
 pub mod PrintedIn
+pub mod Parsing

@@ -1,14 +1,14 @@
 -- The row of a reception in the arrays of an archive's rows, and the two programs that say all of them.
 use mathlib.Core.Path.{◌≡◌, refl, sym, ap, ◌∙◌}
-use mathlib.Core.Bool.{Bool, true, false, cond, false≢true}
-use mathlib.Core.List.{List, [], ◌∷◌, ◌++◌}
+use mathlib.Core.Bool.{true, false≢true}
+use mathlib.Core.List.{List, [], ◌∷◌}
 use Prim.Native.Nat.{ℕ, zero, suc, ◌+◌, ◌-◌, ◌*◌, ◌<◌, ◌≤◌}
 use native.Mathlib.Omega.{arith}
 use native.Mathlib.Decide.{dec_lt}
 use native.Mathlib.Nat.{zero-add}
 use lib.Dec.{lit<}
 use lib.ListN.{length, get_or, take, drop, replicate, length-drop, length-append, length-replicate, length-take, get_or-replicate, get_or-append, get_or-eq_default}
-use lib.Seq.{sets, get_or-append-add, ext_get_or, set-get_or}
+use lib.Seq.{get_or-append-add, ext_get_or, set-get_or}
 use Rattle.base_lists.specs.Lists.{padded}
 use Rattle.base_lists.proofs.Padded.{take-padded}
 use Rattle.base_bytes.specs.Bytes.{index_of}

@@ -201,7 +201,8 @@ module _ (p : Program (Phase Receiver)) (b : Bounded p line_limit) {Ready : List
         (at + used) r n k (left - 1)
     bad-taken u x w fits =
         let same = same_length w in
-        let next = bad_next (record { setting = setting; view = v }) (line_at input at) u in
+        let here : Receiver = record { setting = setting; view = v } in
+        let next = bad_next here (line_at input at) u in
         record {
           inside = within;
           room = omega arith;
@@ -209,26 +210,26 @@ module _ (p : Program (Phase Receiver)) (b : Bounded p line_limit) {Ready : List
           tested = i.tested;
           elements =
               rows-line line_columns columns_bounded input at used i.elements e i.inside (omega arith) refl
-              (ap₂ held next (bad-columns _ _ a u)) (printed_none [] 0 0);
+              (ap₂ held next (bad-columns here (line_at input at) a u)) (printed_none [] 0 0);
           fed = rows-line p b input at used i.fed e i.inside (omega (arith, i.long)) x (nexts _ _ ∙ next) w;
           few = omega (arith, i.few);
           due = still-due;
           places = i.places;
-          same_moments = i.same-moments;
+          same_moments = i.same_moments;
           same_rows = i.same_rows;
           sized = i.sized;
           times =
               rows-line row_times times_bounded input at used i.times e i.inside
-              (omega (arith, i.places, i.same-moments)) (bad-times _ _ u) next (printed_none moments n 0);
+              (omega (arith, i.places, i.same_moments)) (bad-times here (line_at input at) u) next (printed_none moments n 0);
           records =
               rows-line row_records records_bounded input at used i.records e i.inside
-              (omega (arith, i.places, i.same-moments, i.sized)) (bad-records _ _ u) next
+              (omega (arith, i.places, i.same_moments, i.sized)) (bad-records here (line_at input at) u) next
               (printed_none rows (23 * n) 0);
           spare = i.spare;
-          same_closed = i.same-closed;
+          same_closed = i.same_closed;
           closes =
               rows-line (line_closings asked) (closings_bounded asked) input at used i.closes e i.inside
-              (omega (arith, i.spare, i.same-closed)) (bad-closes asked _ _ u) next (printed_none closed (32 * k) 0);
+              (omega (arith, i.spare, i.same_closed)) (bad-closes asked here (line_at input at) u) next (printed_none closed (32 * k) 0);
           ticks =
               rows-line line_ticks ticks_bounded input at used i.ticks e i.inside ticked refl next
               (tick most left i.few some);
@@ -246,7 +247,8 @@ module _ (p : Program (Phase Receiver)) (b : Bounded p line_limit) {Ready : List
         closed' (at + used) r n' k' (left - 1)
     said-taken o u s c t x w fits free d f g spare =
         let same = same_length w in
-        let next = said_next (record { setting = setting; view = v }) (line_at input at) o u s in
+        let here : Receiver = record { setting = setting; view = v } in
+        let next = said_next here (line_at input at) o u s in
         record {
           inside = within;
           room = omega arith;
@@ -254,25 +256,25 @@ module _ (p : Program (Phase Receiver)) (b : Bounded p line_limit) {Ready : List
           tested = t;
           elements =
               rows-line line_columns columns_bounded input at used i.elements e i.inside (omega arith) refl
-              (ap₂ held next (said-columns _ _ a u ∙ sym c)) (printed_none [] 0 0);
+              (ap₂ held next (said-columns here (line_at input at) a u ∙ sym c)) (printed_none [] 0 0);
           fed = rows-line p b input at used i.fed e i.inside (omega (arith, i.long)) x (nexts _ _ ∙ next) w;
           few = omega (arith, i.few);
           due = still-due;
           places = omega (arith, d.short, same_length d, free);
-          same_moments = same_length d ∙ i.same-moments;
+          same_moments = same_length d ∙ i.same_moments;
           same_rows = same_length f ∙ i.same_rows;
           sized = i.sized;
           times =
               rows-line row_times times_bounded input at used i.times e i.inside
-              (omega (arith, d.short, free, i.same-moments)) (said-times _ _ o u s) next d;
+              (omega (arith, d.short, free, i.same_moments)) (said-times here (line_at input at) o u s) next d;
           records =
               rows-line row_records records_bounded input at used i.records e i.inside
-              (omega (arith, d.short, free, i.same-moments, i.sized)) (said-records _ _ o u s) next f;
+              (omega (arith, d.short, free, i.same_moments, i.sized)) (said-records here (line_at input at) o u s) next f;
           spare = omega (arith, same_length g);
-          same_closed = same_length g ∙ i.same-closed;
+          same_closed = same_length g ∙ i.same_closed;
           closes =
               rows-line (line_closings asked) (closings_bounded asked) input at used i.closes e i.inside
-              (omega (arith, i.same-closed)) (said-closes asked _ _ u) next g;
+              (omega (arith, i.same_closed)) (said-closes asked here (line_at input at) u) next g;
           ticks =
               rows-line line_ticks ticks_bounded input at used i.ticks e i.inside ticked refl next
               (tick most left i.few some);

@@ -1,4 +1,6 @@
 // A run of the program `collect` (document 01, "Cases"): the lines of its input through the collector.
+#![tactic(auto)]
+
 pub mod formats;
 
 ghost use Rattle.std.specs.Prelude.{◌≡◌, List, [], ◌∷◌, ℕ, ◌+◌, ◌*◌, ◌<◌, ◌≤◌, length, take};

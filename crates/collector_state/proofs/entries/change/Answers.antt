@@ -1,0 +1,14 @@
+-- `collector_state::entries::change` meets its contract: array by array.
+use Rattle.collector_state.proofs.entries.change.Goals as goal
+
+pub change_times-requires : goal.change_times-requires
+change_times-requires c = let p = c.requires in (p.0, λ e. (p.2 e).0)
+
+pub change_copies-requires : goal.change_copies-requires
+change_copies-requires c =
+    let p = c.requires in
+    (p.0, p.1, λ e. (p.2 e).0)
+
+pub returns : goal.returns
+returns c =
+    (c.change_times.ensures, c.change_lens.ensures, c.change_bytes.ensures, c.change_copies.ensures)

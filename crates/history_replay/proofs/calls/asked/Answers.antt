@@ -1,0 +1,26 @@
+-- `history_replay::calls::asked` meets its contract: by what `copies_of` ensures.
+use mathlib.Core.Path.{ap, ◌∙◌}
+use Rattle.c_collector.specs.State.{Arrays, arrays, state_at}
+use Rattle.c_collector.specs.Calls.{copies_call}
+use Rattle.history_replay.specs.Calls.{asked_entry}
+use Rattle.history_replay.proofs.Called.{heard}
+use Rattle.history_replay.proofs.calls.asked.Lts as lts
+use Rattle.history_replay.proofs.calls.asked.Reads as reads
+use Rattle.history_replay.proofs.calls.asked.Tie as tie
+use Rattle.history_replay.proofs.calls.asked.Goals as goal
+
+-- states on the way
+abbrev Start : Type 0
+Start = lts.Start tie.the-claims reads.Pre reads.Post
+
+-- what is lent
+abbrev lent : Start → Arrays
+lent s =
+    let a = s.args in
+    arrays a.times.now a.lengths.now a.bytes.now a.copies.now a.numbers.now
+
+pub returns : goal.returns
+returns c =
+    heard {s = lent c.before.before.before.before.before.before.before.before.before.before.before} (asked_entry c.args.r.now) _ _ _
+    (c.copies_of-number.ensures ∙ ap (λ k. copies_call (state_at (lent c.before.before.before.before.before.before.before.before.before.before.before)) k 0) c.number_at-entry.ensures)
+    c.totals_of-totals.ensures c.put_body.ensures
