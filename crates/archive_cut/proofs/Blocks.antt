@@ -143,6 +143,7 @@ module _ (m : ℕ) (b : List ℕ) where
         (λ t. (t, rw t at h))
         (λ f. absurd (some (rw f refl)))
 
-    pub block-done : is_sound b ≡ true → m ≤ row_count b → (record { number = 0; block = first_rows m b }) ≡ cut_block_of m b
+    pub block-done : is_sound b ≡ true → m ≤ row_count b
+        → (record { number = 0; block = first_rows m b }) ≡ cut_block_of m b
     unfolding cut_block_of
     block-done t h = rw (eq-eqb (length b) block_length long, t, le-leb m (row_count b) h)

@@ -112,7 +112,8 @@ zeros_behind k buffer v some =
     let parts : take (block_length * k) buffer ++ first_rows 0 b ++ replicate (n - (block_length * k + block_length)) 0
     ≡ remaining (cells_per_block * k) buffer
     = rw (d, r) at (cut_parts (cells_per_block * k) buffer v some) in
-    let zeros : first_rows 0 b ++ replicate (n - (block_length * k + block_length)) 0 ≡ replicate (n - block_length * k) 0
+    let zeros : first_rows 0 b ++ replicate (n - (block_length * k + block_length)) 0
+    ≡ replicate (n - block_length * k) 0
     = ap (λ (l : List ℕ). l ++ replicate (n - (block_length * k + block_length)) 0) (sym (first_none b))
     ∙ replicate-append-replicate block_length (n - (block_length * k + block_length)) 0
     ∙ ap (λ (c : ℕ). replicate c 0) e in

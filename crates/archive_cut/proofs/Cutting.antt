@@ -140,7 +140,8 @@ module _ (rows : List Row) (n : ℕ) (fit : Fits rows)
       ∙ first_some (m % cells_per_block) block u)
 
   -- the blocks after it
-  back : drop (block_length * k + block_length) after ≡ replicate (block_length * n - (block_length * k + block_length)) 0
+  back : drop (block_length * k + block_length) after
+      ≡ replicate (block_length * n - (block_length * k + block_length)) 0
   back =
       let c = n - suc k in
       let e : block_length * suc k ≡ block_length * k + block_length = omega arith in
@@ -250,7 +251,8 @@ module _ (m : ℕ) (buffer : List ℕ) where
           rw (is_exact buffer v) at
           (block-enough rows_now blocks (rows_fit buffer v) (rows_few buffer v) (blocks_of buffer v).1 m some)
 
-      pub cut_parts : take (block_length * (m / cells_per_block)) buffer ++ first_rows (m % cells_per_block) cut_block_lem
+      pub cut_parts : take (block_length * (m / cells_per_block)) buffer
+          ++ first_rows (m % cells_per_block) cut_block_lem
           ++ replicate (length buffer - (block_length * (m / cells_per_block) + block_length)) 0
           ≡ remaining
       cut_parts =

@@ -150,7 +150,8 @@ module _ (cell : List ℕ) where
         (not_equal (row_cell (row_in cell)) cell (λ e. last_bad (cell_last cell) h (row_in cell).loose (last_is e)))
 
     pub written_row : ((i : ℕ) → get_or cell i 0 < 256) → is_blank rest ≡ true
-        → not (eqb (cell_last cell) 0) && not (eqb (cell_last cell) 256) ≡ false → is_row (row_in cell) ≡ is_written cell
+        → not (eqb (cell_last cell) 0) && not (eqb (cell_last cell) 256) ≡ false
+        → is_row (row_in cell) ≡ is_written cell
     written_row small z h =
         let e = again small z (last_ok (cell_last cell) h) in
         let t : equal (row_cell (row_in cell)) cell ≡ true = ap (λ (x : List ℕ). equal x cell) e ∙ equal-refl cell in
@@ -161,7 +162,8 @@ module _ (cell : List ℕ) where
 -- ---- the cells of a block
 
 module _ (block : List ℕ) where
-  pub cells_first : (used : ℕ) → all is_written (cells_from block 0 (used - 0)) ≡ all is_written (cells_from block 0 used)
+  pub cells_first : (used : ℕ) → all is_written (cells_from block 0 (used - 0))
+      ≡ all is_written (cells_from block 0 used)
   cells_first used =
       let e : used - 0 ≡ used = omega arith in
       rw e
@@ -296,7 +298,8 @@ module _ (b : List ℕ) (l : length b ≡ block_length) (small : (i : ℕ) → g
   cells_count = length-map (up_from 0 u) (λ i. block_cell i b) ∙ length-up_from 0 u
 
   -- each cell
-  cell_ok : (i : ℕ) → i < u → (is_row (row_in (block_cell i b)) ≡ true) × (row_cell (row_in (block_cell i b)) ≡ block_cell i b)
+  cell_ok : (i : ℕ) → i < u → (is_row (row_in (block_cell i b)) ≡ true)
+      × (row_cell (row_in (block_cell i b)) ≡ block_cell i b)
   unfolding cells_from
   cell_ok i h =
       let c = block_cell i b in
@@ -319,7 +322,8 @@ module _ (b : List ℕ) (l : length b ≡ block_length) (small : (i : ℕ) → g
       (map-map row_cell (λ i. row_in (block_cell i b)) (up_from 0 u)
       ∙ map_same (λ i. row_cell (row_in (block_cell i b)))
       (λ i. part (cell_length * i) cell_length (drop header_length b)) 0 u
-      (λ i p h. (cell_ok i (omega arith)).1 ∙ ap (take cell_length) (sym (drop-drop (cell_length * i) header_length b))))
+      (λ i p h. (cell_ok i (omega arith)).1
+      ∙ ap (take cell_length) (sym (drop-drop (cell_length * i) header_length b))))
       ∙ pieces cell_length (drop header_length b) 0 u
 
   header_are : rows_header (block_number b) u ≡ take header_length b
@@ -329,7 +333,8 @@ module _ (b : List ℕ) (l : length b ≡ block_length) (small : (i : ℕ) → g
       ap₂ (λ (x y : List ℕ). x ++ (u ∷ []) ++ y) (be_front 4 b (omega arith) small) z
       ∙ ap (λ (x : List ℕ). x ++ part 5 19 b) (sym (take-suc b 4 0 (omega arith))) ∙ sym (take-add 5 19 b)
 
-  body_are : padded body_length (rows_header (block_number b) (length (rows_of b)) ++ flatten (map row_cell (rows_of b)))
+  body_are : padded body_length (rows_header (block_number b) (length (rows_of b))
+      ++ flatten (map row_cell (rows_of b)))
       ≡ take body_length b
   body_are =
       let f : rows_header (block_number b) (length (rows_of b)) ++ flatten (map row_cell (rows_of b)) ≡ take at b =

@@ -102,7 +102,8 @@ module _ (block : List ℕ) (n : ℕ) (times records : List ℕ) where
   pub put-size : is_given (length block) n (length times) (length records) ≡ false
       → refused_append (number_of Size) 0 block ≡ put_rows_given block n times records
   unfolding put_rows_given put_rows_of
-  put-size h = go (eqb (length records) (row_length * length times)) (eqb (length block) block_length) (ltb n max_rows) h
+  put-size h = go (eqb (length records) (row_length * length times)) (eqb (length block) block_length)
+      (ltb n max_rows) h
     where
       go : (c a b : Bool) → a && (b && c) ≡ false
           → refused_append (number_of Size) 0 block
@@ -111,7 +112,8 @@ module _ (block : List ℕ) (n : ℕ) (times records : List ℕ) where
           (cond (not (is_next n block)) (refused_append (number_of Mismatch) (n / cells_per_block) block)
           (cond (not (eqb (check_rows 0 rows).number 0))
           (refused_append (check_rows 0 rows).number (check_rows 0 rows).position block)
-          (cond (ltb cells_per_block (n % cells_per_block + length rows)) (refused_append (number_of ShortOutput) 0 block)
+          (cond (ltb cells_per_block (n % cells_per_block + length rows))
+          (refused_append (number_of ShortOutput) 0 block)
           (stored (put_rows n rows block))))))
       go false a b e = refl
       go true false b e = refl

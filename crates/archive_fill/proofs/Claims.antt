@@ -36,7 +36,8 @@ put_facts block n rows z =
     go (eqb (length block) block_length && ltb n max_rows) (is_next n block) (eqb (check_rows 0 rows).number 0)
     (ltb cells_per_block (n % cells_per_block + length rows)) refl refl refl refl
   where
-    go : (size next valid many : Bool) → eqb (length block) block_length && ltb n max_rows ≡ size → is_next n block ≡ next
+    go : (size next valid many : Bool) → eqb (length block) block_length && ltb n max_rows ≡ size
+        → is_next n block ≡ next
         → eqb (check_rows 0 rows).number 0 ≡ valid
         → ltb cells_per_block (n % cells_per_block + length rows) ≡ many → Put block n rows
     go false next valid many a b c d = absurd (let q : 16 ≡ 0 = rw a at z in omega arith)

@@ -53,7 +53,8 @@ module _ (buffer : List ℕ) (k : ℕ) (inside : k < length buffer / block_lengt
 
     with_at : block_at k (with_block k ys buffer) ≡ ys
     with_at =
-        left (front ++ ys) behind (block_length * k + block_length) (block_length * k) block_length both_long (omega arith)
+        left (front ++ ys) behind (block_length * k + block_length) (block_length * k) block_length both_long
+        (omega arith)
         ∙ last front ys (block_length * k) block_length front_long long
 
     with_with : (zs : List ℕ) → with_block k zs (with_block k ys buffer) ≡ with_block k zs buffer
@@ -78,12 +79,19 @@ module _ (buffer : List ℕ) (v : (verdict buffer).number ≡ 0) (n : ℕ) (e : 
     (inside : n / cells_per_block < length buffer / block_length)
     (next : is_next n (block_at (n / cells_per_block) buffer) ≡ true) where
   grown : (r : Row) → is_row r ≡ true → r.time < 2 ^ 64
-      → Grown buffer (with_block (n / cells_per_block) (put_row n r (block_at (n / cells_per_block) buffer)) buffer) (r ∷ [])
+      → Grown buffer (with_block (n / cells_per_block) (put_row n r (block_at (n / cells_per_block) buffer)) buffer)
+      (r ∷ [])
   unfolding append_at_of
   grown r valid t =
       let new = with_block (n / cells_per_block) (put_row n r (block_at (n / cells_per_block) buffer)) buffer in
       let put : append_at_of buffer n r ≡ stored new
-      = rw ((verdict_facts buffer v).0, lt-ltb (n / cells_per_block) (length buffer / block_length) inside, next, valid) in
+      = rw (
+        (verdict_facts buffer v).0,
+        lt-ltb (n / cells_per_block)
+            (length buffer / block_length) inside,
+        next,
+        valid,
+      ) in
       let is : append_of buffer r ≡ stored new =
       sym (cursor buffer v r t) ∙ ap (λ (i : ℕ). append_at_of buffer i r) e ∙ put in
       let g = appended buffer v r t (ap (λ (a : Appended). a.number) is) in (
@@ -96,7 +104,8 @@ grown_all : (rows : List Row) (r : Row) (buffer : List ℕ)
     → n / cells_per_block < length buffer / block_length
     → is_next n (block_at (n / cells_per_block) buffer) ≡ true → all is_row (r ∷ rows) ≡ true
     → all (λ x. ltb x.time (2 ^ 64)) (r ∷ rows) ≡ true → n % cells_per_block + length (r ∷ rows) ≤ cells_per_block
-    → Grown buffer (with_block (n / cells_per_block) (put_rows n (r ∷ rows) (block_at (n / cells_per_block) buffer)) buffer)
+    → Grown buffer (with_block (n / cells_per_block)
+    (put_rows n (r ∷ rows) (block_at (n / cells_per_block) buffer)) buffer)
     (r ∷ rows)
 unfolding put_rows
 grown_all [] r buffer v n e inside next valid small few =

@@ -23,7 +23,8 @@ use Rattle.archive_fill.specs.Fill.{row_length, row_given, rows_given}
 
 module _ (time : ℕ) (given : List ℕ) where
   pub long-given : max_length < get_or given 1 0 → number_of Length ≡ check_of (row_given time given).bytes
-  long-given h = check-long (row_given time given).bytes (omega (arith, resized-length (get_or given 1 0) (drop 2 given)))
+  long-given h = check-long (row_given time given).bytes
+      (omega (arith, resized-length (get_or given 1 0) (drop 2 given)))
 
   pub short-given : is_row (row_given time given) ≡ true → get_or given 1 0 ≤ max_length
   short-given v =

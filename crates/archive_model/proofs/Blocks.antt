@@ -63,7 +63,8 @@ no_row = record { bytes = []; time = 0; loose = false }
 unfoldable pub Fits : List Row → Type 0
 Fits rows = (i : ℕ) → i < length rows → Fit (get_or rows i (record { bytes = []; time = 0; loose = false }))
 
-pub all_from : (p : Row → Bool) (l : List Row) → ((i : ℕ) → i < length l → p (get_or l i no_row) ≡ true) → all p l ≡ true
+pub all_from : (p : Row → Bool) (l : List Row) → ((i : ℕ) → i < length l → p (get_or l i no_row) ≡ true)
+    → all p l ≡ true
 all_from p [] h = refl
 all_from p (x ∷ l) h = and-true (h 0 (omega arith)) (all_from p l (λ i k. h (suc i) (omega arith)))
 

@@ -167,7 +167,8 @@ module _ (rows : List Row) (m : ℕ) (fit : Fits rows) (fits : length rows ≤ c
       (λ k l h. rows_back k (rows_at k rows) (group_fits rows fit k) (group_few rows k)))
       ∙ pieces cells_per_block rows 0 b)
       (none_flat (m - b))
-      ∙ append-nil (part (cells_per_block * 0) (cells_per_block * b) rows) ∙ take_all (cells_per_block * b) rows (omega arith)
+      ∙ append-nil (part (cells_per_block * 0) (cells_per_block * b) rows)
+      ∙ take_all (cells_per_block * b) rows (omega arith)
 
 -- ---- every block matches
 
@@ -212,7 +213,8 @@ not_blank block l h =
 -- one block that matches, and those behind it
 match_next : (k : ℕ) (block : List ℕ) (more : List (List ℕ))
     → is_blank block ≡ false → is_sound block ≡ true → block_number block ≡ k
-    → is_short block && is_followed more ≡ false → mismatch_from (suc k) more ≡ None → mismatch_from k (block ∷ more) ≡ None
+    → is_short block && is_followed more ≡ false → mismatch_from (suc k) more ≡ None
+    → mismatch_from k (block ∷ more) ≡ None
 unfolding mismatch_from
 match_next k block more nb so nu sh rest = rw (nb, so, eq-eqb (block_number block) k nu, sh) rest
 
@@ -227,7 +229,8 @@ module _ (rows : List Row) (m : ℕ) (fit : Fits rows)
   last_or_full a zero z e = and-false (is_short (rows_block a (rows_at a rows))) (zeros_follow z)
   last_or_full a (suc j) z e =
       let count = count-back a (rows_at a rows) (group_fits rows fit a) (group_few rows a) in
-      let full : cells_per_block ≤ row_count (rows_block a (rows_at a rows)) = omega (arith, count, group_length rows a) in
+      let full : cells_per_block ≤ row_count (rows_block a (rows_at a rows)) =
+      omega (arith, count, group_length rows a) in
       rw (le-ltb (row_count (rows_block a (rows_at a rows))) cells_per_block full)
 
   matches : (a j z : ℕ) → a + j ≡ blocks_for (length rows)

@@ -115,7 +115,8 @@ module _ (k : ℕ) (rows : List Row) (shorts : Shorts rows) (few : length rows �
   unfolding rows_block block_of sealed
   body_at i h =
       let body = padded body_length (head ++ cells) in
-      get_or-append body (crc_of body ∷ []) 0 i (omega (arith, body_length_lem)) ∙ padded_at body_length (head ++ cells) i
+      get_or-append body (crc_of body ∷ []) 0 i (omega (arith, body_length_lem))
+      ∙ padded_at body_length (head ++ cells) i
 
   head_at : (i : ℕ) → i < header_length → get_or block i 0 ≡ get_or (be 4 k ++ (n ∷ [])) i 0
   head_at i h =

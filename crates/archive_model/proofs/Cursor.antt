@@ -131,7 +131,8 @@ module _ (n : ℕ) (r : Row) (fr : length (row_cell r) ≡ cell_length) where
 
 -- ---- the buffer of some rows is an archive
 
-module _ (rows : List Row) (m : ℕ) (fit : Fits rows) (fits : length rows ≤ cells_per_block * m) (mb : m ≤ max_blocks) where
+module _ (rows : List Row) (m : ℕ) (fit : Fits rows) (fits : length rows ≤ cells_per_block * m)
+    (mb : m ≤ max_blocks) where
   pub written_whole : is_whole (length (buffer_of (block_length * m) rows)) ≡ true
   unfolding is_whole
   written_whole =
@@ -289,12 +290,14 @@ module _ (rows : List Row) (m : ℕ) (fit : Fits rows) (fits : length rows ≤ c
         (λ j. part (block_length * j) block_length buffer) (suc k) (m - suc k) after_same)
         ∙ behind buffer (buffer-length rows m fit fits)
 
-    split : (xs : List ℕ) → take (block_length * k) xs ++ block_at k xs ++ drop (block_length * k + block_length) xs ≡ xs
+    split : (xs : List ℕ) → take (block_length * k) xs ++ block_at k xs ++ drop (block_length * k + block_length) xs
+        ≡ xs
     split xs =
         append_assoc (take (block_length * k) xs) (block_at k xs) (drop (block_length * k + block_length) xs)
         ∙ ap (λ (l : List ℕ). take (block_length * k) xs ++ (block_at k xs ++ l))
         (sym (drop-drop block_length (block_length * k) xs))
-        ∙ ap (λ (l : List ℕ). take (block_length * k) xs ++ l) (take-append-drop block_length (drop (block_length * k) xs))
+        ∙ ap (λ (l : List ℕ). take (block_length * k) xs ++ l)
+        (take-append-drop block_length (drop (block_length * k) xs))
         ∙ take-append-drop (block_length * k) xs
 
     pub buffer-more : take (block_length * k) buffer ++ put_row n r (block_at k buffer)
@@ -381,7 +384,8 @@ module _ (rows : List Row) (m : ℕ) (fit : Fits rows) (fits : length rows ≤ c
           absurd (not-zero true v
           (append_is true (lt-leb (cells_per_block * (length buffer / block_length)) n (omega (arith, count)))) z))
       | no h ↦
-          (let is = append_is false (le-leb (cells_per_block * (length buffer / block_length)) n (omega (arith, count))) in
+          (let is = append_is false (le-leb (cells_per_block * (length buffer / block_length)) n
+          (omega (arith, count))) in
           by_test {X = ((verdict (append_of buffer r).buffer).number ≡ 0)
           × (rows_in (append_of buffer r).buffer ≡ rows ++ (r ∷ []))}
           (is_valid r.bytes)
@@ -447,7 +451,8 @@ module _ (buffer : List ℕ) (v : (verdict buffer).number ≡ 0) where
       (rw is_exact at g) z
 
 -- a row that is refused leaves the buffer as it was
-pub append_kept : (buffer : List ℕ) (r : Row) → ((append_of buffer r).number ≡ 0 → ⊥) → (append_of buffer r).buffer ≡ buffer
+pub append_kept : (buffer : List ℕ) (r : Row) → ((append_of buffer r).number ≡ 0 → ⊥)
+    → (append_of buffer r).buffer ≡ buffer
 unfolding append_of
 append_kept buffer r h =
     go (not (eqb (verdict buffer).number 0)) (not (eqb (row_number buffer r) 0)) h

@@ -116,7 +116,8 @@ pub data Shape : ℕ → List (List ℕ) → Type 0 where
   more : {k : ℕ} {b : List ℕ} {bs : List (List ℕ)} → Good k b
       → cells_per_block ≤ row_count b → Shape (suc k) bs → Shape k (b ∷ bs)
 
-all_blank : (k : ℕ) (bs : List (List ℕ)) → Each block_length bs → non_zero k bs ≡ None → bs ≡ replicate (length bs) blank
+all_blank : (k : ℕ) (bs : List (List ℕ)) → Each block_length bs → non_zero k bs ≡ None
+    → bs ≡ replicate (length bs) blank
 all_blank k [] each e = refl
 all_blank k (b ∷ bs) each e =
     by_test {X = b ∷ bs ≡ replicate (length (b ∷ bs)) blank} (is_blank b)
@@ -216,7 +217,8 @@ unfolding archive_from flatten up_from
 archive_none k = refl
 
 -- one block alone
-archive_one : (k : ℕ) (xs : List Row) → 1 ≤ length xs → length xs ≤ cells_per_block → archive_from k xs ≡ rows_block k xs
+archive_one : (k : ℕ) (xs : List Row) → 1 ≤ length xs → length xs ≤ cells_per_block
+    → archive_from k xs ≡ rows_block k xs
 unfolding archive_from flatten up_from
 archive_one k xs h l =
     let e : blocks_for (length xs) ≡ 1 = omega arith in
@@ -259,7 +261,8 @@ good_is {k} {b} g = ap (λ (n : ℕ). rows_block n (rows_of b)) (sym g.number) �
 padded_next : (b xs : List ℕ) (n : ℕ) → length b ≡ block_length
     → b ++ padded (block_length * n) xs ≡ padded (block_length * suc n) (b ++ xs)
 padded_next b xs n l =
-    let e : block_length * n - length xs ≡ block_length * suc n - length (b ++ xs) = omega (arith, length-append b xs) in
+    let e : block_length * n - length xs ≡ block_length * suc n - length (b ++ xs) =
+    omega (arith, length-append b xs) in
     sym (append_assoc b xs (replicate (block_length * n - length xs) 0)) ∙ ap (λ m. b ++ xs ++ replicate m 0) e
 
 shape_written : {k : ℕ} {bs : List (List ℕ)} → Shape k bs

@@ -36,7 +36,8 @@ module _ (cell : List ℕ) where
   unfolding cell_row
   cell_found h = rw (le-leb (cell_used cell) cell_capacity h)
 
-  pub cell_long : cell_capacity < cell_used cell → cell_row cell ≡ (record { number = number_of Mismatch; row = no_row })
+  pub cell_long : cell_capacity < cell_used cell
+      → cell_row cell ≡ (record { number = number_of Mismatch; row = no_row })
   unfolding cell_row
   cell_long h = rw (lt-leb (cell_used cell) cell_capacity h)
 
@@ -85,7 +86,8 @@ module _ (rows : List Row) (m : ℕ) (fit : Fits rows)
       ap (λ (b : List ℕ). row_in (block_cell j b)) (used (omega arith))
       ∙ ap row_in (written_cell k group (shorts group (group_fits rows fit k)) (group_few rows k) j l)
       ∙ row_back (get_or group j no_row) (group_fits rows fit k j l)
-      ∙ part_at (cells_per_block * k) cells_per_block rows j no_row (omega arith) ∙ ap (λ (n : ℕ). get_or rows n no_row) e
+      ∙ part_at (cells_per_block * k) cells_per_block rows j no_row (omega arith)
+      ∙ ap (λ (n : ℕ). get_or rows n no_row) e
 
   is_short : i < length rows → length (get_or rows i no_row).bytes ≤ cell_capacity
   unfolding Fits

@@ -173,7 +173,8 @@ module _ (buffer : List ℕ) (next used : ℕ) (pending : List ℕ)
       (omega (arith, long, salvaged_few)) put
       ∙ ap (λ (rows : List Row). buffer_of (length buffer) rows ++ drop (length buffer) output)
       (others_none (sound_rows buffer))
-      ∙ ap (λ (n : ℕ). buffer_of (length buffer) (sound_rows buffer) ++ drop n output) (sym (salvaged_length buffer w)) in
+      ∙ ap (λ (n : ℕ). buffer_of (length buffer) (sound_rows buffer) ++ drop n output)
+      (sym (salvaged_length buffer w)) in
       rw (w, le-ltb (length output) (length buffer) fits, le-ltb (length positions) (length (dropped buffer)) listable)
       (λ j. record { number = 0; count = count j; rows = salvaged_rows j; output = done j; positions = list j })
 

@@ -52,7 +52,8 @@ module _ (k total : ℕ) (before : List ℕ) where
           rest = omega arith;
           are =
               ap (take (cell_length * (total - cells_per_block))) moved
-              ∙ take-append-le (cell_length * (total - cells_per_block)) (drop full_length before) (drop full_length before)
+              ∙ take-append-le (cell_length * (total - cells_per_block)) (drop full_length before)
+              (drop full_length before)
               (omega (arith, length-drop full_length before))
               ∙ sym (ap₂ (λ (a b : ℕ). drop (full_length * a) (take b before)) one split
               ∙ drop-take before full_length (full_length + cell_length * (total - cells_per_block))

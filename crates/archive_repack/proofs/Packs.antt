@@ -116,7 +116,8 @@ module _ (next used : ℕ) (pending : List ℕ) where
                   )
 
               pub pack_done : length (dropped piece) ≤ length positions
-                  → packed_as (length (dropped piece)) (pushed (packing next used pending) (kept_cells identities piece))
+                  → packed_as (length (dropped piece))
+                  (pushed (packing next used pending) (kept_cells identities piece))
                   (fronted (pushed_blocks (packing next used pending) (kept_cells identities piece)) output)
                   (fronted (dropped piece) positions)
                   ≡ answer
@@ -146,7 +147,8 @@ module _ (next used : ℕ) (pending : List ℕ) where
       unfolding finish_of
       finish_none z =
           let none = last_none next used pending facts.0 facts.1 z in
-          let low : length (waiting_block (packing next used pending)) ≤ length output = omega (arith, ap length none) in
+          let low : length (waiting_block (packing next used pending))
+          ≤ length output = omega (arith, ap length none) in
           rw (p, le-ltb (length output) (length (waiting_block (packing next used pending))) low, none)
 
       module _ (some : used ≡ 0 → ⊥) where
@@ -156,7 +158,8 @@ module _ (next used : ℕ) (pending : List ℕ) where
             ∙ last_long next used pending facts.0 facts.1
 
         pub finish_short : length output < block_length
-            → record { number = number_of ShortOutput; length = 0; output = output } ≡ finish_of next used pending output
+            → record { number = number_of ShortOutput; length = 0; output = output }
+            ≡ finish_of next used pending output
         unfolding finish_of
         finish_short h =
             let low : length output < length (waiting_block (packing next used pending)) = omega (arith, long) in

@@ -45,13 +45,15 @@ module _ (identities : List ℕ) where
   kept-written [] ok = refl
   kept-written (c ∷ cells) ok =
       let b = both (is_written c) _ ok in
-      let same : row_cell (row_in c) ≡ c = equal_eq (row_cell (row_in c)) c (rw (both (is_row (row_in c)) _ b.0).1 tt) in
+      let same : row_cell (row_in c) ≡ c =
+      equal_eq (row_cell (row_in c)) c (rw (both (is_row (row_in c)) _ b.0).1 tt) in
       go (is_listed identities (row_in c)) same (kept-written cells b.1)
     where
       go : (b : Bool) → row_cell (row_in c) ≡ c
           → flatten (map (kept_cell identities) cells) ≡ cells_of (others identities (map row_in cells))
           → cond b [] c ++ flatten (map (kept_cell identities) cells)
-          ≡ cells_of (cond (not b) (row_in c ∷ others identities (map row_in cells)) (others identities (map row_in cells)))
+          ≡ cells_of (cond (not b) (row_in c ∷ others identities (map row_in cells))
+          (others identities (map row_in cells)))
       go true same e = e
       go false same e = ap₂ ◌++◌ (sym same) e
 
@@ -162,7 +164,8 @@ module _ (next waits total rest : ℕ) (pending pending1 pending2 cells full ful
   step-packing =
       let c : length (take (cell_length * waits) pending ++ cells) / full_length ≡ total / cells_per_block =
       ap (λ (x : List ℕ). length x / full_length) (sym w.are) ∙ omega (arith, cells-long) in
-      let n : next + length (take (cell_length * waits) pending ++ cells) / full_length ≡ next + total / cells_per_block =
+      let n : next + length (take (cell_length * waits) pending ++ cells) / full_length
+      ≡ next + total / cells_per_block =
       ap (λ (x : ℕ). next + x) c in
       let d : drop (full_length * (length (take (cell_length * waits) pending ++ cells) / full_length))
       (take (cell_length * waits) pending ++ cells)
@@ -295,7 +298,8 @@ module _ (p : Packing) (identities piece old : List ℕ) (most n : ℕ) where
           (waits + rows) total_few pushes flushes h in
           let z : block_length * put ≡ block_length * (put + total / cells_per_block) = omega arith in
           let out-is : out ≡ out2 = sym (ap (λ (x : List ℕ). take (block_length * put) out
-          ++ (x ++ drop (block_length * put + block_length - block_length * put) (drop (block_length * put) out))) none.0
+          ++ (x ++ drop (block_length * put + block_length - block_length * put) (drop (block_length * put) out)))
+          none.0
           ∙ put_same (block_length * put) (block_length * put + block_length - block_length * put) out) in
           begun_same (named at.begun (at.front ++ full_blocks N (take (cell_length * total) pending1))
           (sym (append-nil at.front)

@@ -77,7 +77,8 @@ module _ (p : Packing) where
   unfolding pushed
   push_waits cells = omega (arith, length-drop (full_length * (length (w ++ cells) / full_length)) (w ++ cells))
 
-  pub blocks_append : (xs ys : List ℕ) → pushed_blocks p (xs ++ ys) ≡ pushed_blocks p xs ++ pushed_blocks (pushed p xs) ys
+  pub blocks_append : (xs ys : List ℕ) → pushed_blocks p (xs ++ ys)
+      ≡ pushed_blocks p xs ++ pushed_blocks (pushed p xs) ys
   unfolding pushed
   blocks_append xs ys = ap (full_blocks p.next) (sym (append_assoc w xs ys)) ∙ full_append (w ++ xs) ys p.next
 
@@ -202,7 +203,8 @@ module _ (rows : List Row) (fit : Fits rows) where
       let e : full_length * k ≡ cell_length * (cells_per_block * k) = omega arith in
       block-cells k (rows_at k rows) (group_fits rows fit k)
       ∙ ap (cells_block k)
-      (sym (ap (λ (a : ℕ). part a full_length cells) e ∙ ap (take full_length) (drop_cells (cells_per_block * k) rows fit)
+      (sym (ap (λ (a : ℕ). part a full_length cells) e
+      ∙ ap (take full_length) (drop_cells (cells_per_block * k) rows fit)
       ∙ take_cells cells_per_block (drop (cells_per_block * k) rows) (fits-drop (cells_per_block * k))))
 
   abbrev write : ℕ → List ℕ
@@ -215,8 +217,10 @@ module _ (rows : List Row) (fit : Fits rows) where
   unfolding full_blocks
   full_rows =
       ap flatten (map_same write (λ j. cells_block (0 + j) (part (full_length * j) full_length cells)) 0 count
-      (λ k l h. at_block k ∙ ap (λ (i : ℕ). cells_block i (part (full_length * k) full_length cells)) (sym (zero-add k))))
-      ∙ ap (λ (c : ℕ). flatten (map (λ j. cells_block (0 + j) (part (full_length * j) full_length cells)) (up_from 0 c)))
+      (λ k l h. at_block k ∙ ap (λ (i : ℕ). cells_block i (part (full_length * k) full_length cells))
+      (sym (zero-add k))))
+      ∙ ap (λ (c : ℕ). flatten (map (λ j. cells_block (0 + j) (part (full_length * j) full_length cells))
+      (up_from 0 c)))
       (sym full_count)
 
   one_more : (k : ℕ) → flatten (map write (up_from k 1)) ≡ write k

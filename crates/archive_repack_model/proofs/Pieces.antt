@@ -47,7 +47,8 @@ module _ (identities : List ℕ) where
       ap (λ (l : List (List ℕ)). flatten (map rows_of l)) (keep_append is_sound bs cs)
       ∙ ap flatten (map-append rows_of (keep is_sound bs) (keep is_sound cs))
       ∙ flatten_append (map rows_of (keep is_sound bs)) (map rows_of (keep is_sound cs)) in
-      ap (λ (l : List Row). cells_of (others identities l)) rows ∙ ap cells_of (keep_append p (rows_kept bs) (rows_kept cs))
+      ap (λ (l : List Row). cells_of (others identities l)) rows
+      ∙ ap cells_of (keep_append p (rows_kept bs) (rows_kept cs))
       ∙ ap flatten (map-append row_cell (keep p (rows_kept bs)) (keep p (rows_kept cs)))
       ∙ flatten_append (map row_cell (keep p (rows_kept bs))) (map row_cell (keep p (rows_kept cs)))
 

@@ -63,11 +63,13 @@ sound_not_blank b s =
 three_kinds : (bs : List (List ℕ)) → count is_sound bs + length (keep is_dropped bs) + count is_blank bs ≡ length bs
 three_kinds [] = refl
 three_kinds (b ∷ bs) =
-    by_test {X = count is_sound (b ∷ bs) + length (keep is_dropped (b ∷ bs)) + count is_blank (b ∷ bs) ≡ suc (length bs)}
+    by_test {X = count is_sound (b ∷ bs) + length (keep is_dropped (b ∷ bs)) + count is_blank (b ∷ bs)
+    ≡ suc (length bs)}
     (is_sound b)
     (λ s. rw (s, sound_not_blank b s) (omega (arith, three_kinds bs)))
     (λ n.
-    by_test {X = count is_sound (b ∷ bs) + length (keep is_dropped (b ∷ bs)) + count is_blank (b ∷ bs) ≡ suc (length bs)}
+    by_test {X = count is_sound (b ∷ bs) + length (keep is_dropped (b ∷ bs)) + count is_blank (b ∷ bs)
+    ≡ suc (length bs)}
     (is_blank b)
     (λ t. rw (n, t) (omega (arith, three_kinds bs)))
     (λ f. rw (n, f) (omega (arith, three_kinds bs))))

@@ -68,7 +68,8 @@ module _ (identities piece : List ℕ) where
 
   cells-long : length (kept_cells identities piece) ≡ cell_length * length stay
   unfolding kept_cells
-  cells-long = cells-length stay (fits-keep (λ r. not (is_listed identities r)) (sound_rows piece) (sound_rows-fit piece))
+  cells-long = cells-length stay (fits-keep (λ r. not (is_listed identities r)) (sound_rows piece)
+      (sound_rows-fit piece))
 
   stay_few : length stay ≤ cells_per_block * (length piece / block_length)
   stay_few = omega (arith, length-keep (λ r. not (is_listed identities r)) (sound_rows piece), sound_rows_few piece)

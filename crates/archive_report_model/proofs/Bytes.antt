@@ -70,7 +70,8 @@ module _ {A : Type 0} (p : A → Bool) where
   all_each f h a zero = refl
   all_each f h a (suc n) = and-true (h a) (all_each f h (suc a) n)
 
-bytes-from : (high i : ℕ) (bs : List ℕ) → high < 256 ^ i → are_bytes bs ≡ true → unbe_from high bs < 256 ^ (i + length bs)
+bytes-from : (high i : ℕ) (bs : List ℕ) → high < 256 ^ i → are_bytes bs ≡ true
+    → unbe_from high bs < 256 ^ (i + length bs)
 unfolding unbe_from
 bytes-from high i [] h t = rw add-zero h
 bytes-from high i (b ∷ bs) h t =

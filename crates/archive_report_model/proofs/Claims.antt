@@ -92,7 +92,8 @@ module _ (s : Report) (x y : List ℕ) (bytes : are_bytes y ≡ true)
   swapped =
       let k : s.kept + kept_in (rows_in y) + kept_in (rows_in x) ≡ s.kept + kept_in (rows_in x) + kept_in (rows_in y) =
       omega arith in
-      let l : s.loose + loose_in (rows_in y) + loose_in (rows_in x) ≡ s.loose + loose_in (rows_in x) + loose_in (rows_in y) =
+      let l : s.loose + loose_in (rows_in y) + loose_in (rows_in x)
+      ≡ s.loose + loose_in (rows_in x) + loose_in (rows_in y) =
       omega arith in
       λ i. record { archives = s.archives + 1 + 1; lines = lines_swapped i; kept = k i; loose = l i }
 

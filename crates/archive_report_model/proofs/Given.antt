@@ -203,7 +203,8 @@ module _ (n rows c : ℕ) (few : c ≤ cells_per_block) where
     | no h ↦ given_next g odd odd_block (scan_odd n rows st ∙ same (omega arith) (omega arith) b)
   ]
 
-from-ended : (n rows c : ℕ) → c ≤ cells_per_block → Given (scan n rows Ended) → Given (scan (suc n) (rows + c) (Wrong n))
+from-ended : (n rows c : ℕ) → c ≤ cells_per_block → Given (scan n rows Ended)
+    → Given (scan (suc n) (rows + c) (Wrong n))
 from-ended n rows c few g = put n rows c few Ended (Wrong n) 0 (omega arith) g (λ h. refl) refl
 
 wrong_more : (n rows c j : ℕ) → c ≤ cells_per_block

@@ -103,14 +103,21 @@ module _ (lines : List Line) where
       ∙ go (p r) (o r) (sum_added f p j o rows)
     where
       go : (b : Bool) → f (line_of_row r) ≡ cond b 1 0 → sum_by f (add_rows rows lines) ≡ sum_by f lines + count p rows
-          → f (line_of_row r) + sum_by f (add_rows rows lines) ≡ sum_by f lines + cond b (count p rows + 1) (count p rows)
+          → f (line_of_row r) + sum_by f (add_rows rows lines)
+          ≡ sum_by f lines + cond b (count p rows + 1) (count p rows)
       go true e k = omega arith
       go false e k = omega arith
 
   pub more_added : (rows : List Row) → length lines ≤ length (add_rows rows lines)
   more_added [] = omega (arith, ap length (add_none lines))
   more_added (r ∷ rows) =
-      omega (arith, ap length (add_first r rows lines), more-insert (line_of_row r) (add_rows rows lines), more_added rows)
+      omega (
+        arith,
+        ap length (add_first r rows lines),
+        more-insert (line_of_row r)
+            (add_rows rows lines),
+        more_added rows,
+      )
 
 kept_one : (r : Row) → (line_of_row r).kept ≡ cond (not r.loose) 1 0
 kept_one r = go r.loose
@@ -133,7 +140,8 @@ kinds [] = refl
 kinds (r ∷ rows) = go r.loose (kinds rows)
   where
     go : (b : Bool) → kept_in rows + loose_in rows ≡ length rows
-        → cond (not b) (kept_in rows + 1) (kept_in rows) + cond b (loose_in rows + 1) (loose_in rows) ≡ suc (length rows)
+        → cond (not b) (kept_in rows + 1) (kept_in rows) + cond b (loose_in rows + 1) (loose_in rows)
+        ≡ suc (length rows)
     go true e = omega arith
     go false e = omega arith
 

@@ -50,7 +50,8 @@ unfolding bytes_for
 bytes_hashed i =
     let e : length (sealed_of (body_for i)) - 1 ≡ 7 =
     omega (arith, length-append (body_for i) (hash_of (body_for i) ∷ []), body_length_lem i) in
-    ap (λ (n : ℕ). get_or (sealed_of (body_for i)) n 0) e ∙ get_or_at (body_for i) (hash_of (body_for i)) [] 0 7 (body_length_lem i)
+    ap (λ (n : ℕ). get_or (sealed_of (body_for i)) n 0) e
+    ∙ get_or_at (body_for i) (hash_of (body_for i)) [] 0 7 (body_length_lem i)
     ∙ ap hash_of
     (sym (ap (λ (n : ℕ). take n (sealed_of (body_for i))) e
     ∙ take_at (body_for i) (hash_of (body_for i) ∷ []) 7 (body_length_lem i)))
@@ -311,7 +312,8 @@ pub all_fit : (lines : List Line) → all is_line lines ≡ true → all is_fit 
 unfolding is_made
 all_fit lines h = all_weaker is_made is_fit (λ r k. (both (is_fit r) _ k).0) (made_rows lines) (all_made lines h)
 
-pub all_lines : (lines : List Line) → all is_line lines ≡ true → all (λ r. is_line (line_of_row r)) (made_rows lines) ≡ true
+pub all_lines : (lines : List Line) → all is_line lines ≡ true
+    → all (λ r. is_line (line_of_row r)) (made_rows lines) ≡ true
 unfolding is_made
 all_lines lines h =
     all_weaker is_made (λ r. is_line (line_of_row r))

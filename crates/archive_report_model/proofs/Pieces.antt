@@ -119,7 +119,8 @@ blanks_counted k (b ∷ bs) e =
     (λ t. ap₂ ◌++◌ (blank_counted b t) (blanks_counted (suc k) bs (rw t at e)))
     (λ f. absurd (at_none k (rw f at e)))
 
-matching_counted : (k : ℕ) (bs : List (List ℕ)) → mismatch_from k bs ≡ None → rows_of_blocks bs ≡ flatten (map rows_of bs)
+matching_counted : (k : ℕ) (bs : List (List ℕ)) → mismatch_from k bs ≡ None
+    → rows_of_blocks bs ≡ flatten (map rows_of bs)
 unfolding flatten mismatch_from
 matching_counted k [] e = refl
 matching_counted k (b ∷ bs) e =

@@ -139,7 +139,8 @@ module _ (r : Row) (rows : List Row) (e : ℕ) where
             le-leb r.time s.time (omega arith)))))
         | no k ↦
             let m : min r.time e ≡ e = omega arith in
-            subst (λ (x : ℕ). is_least x (r ∷ rows) ≡ true) (sym m) (and-true (later w.0) (and-true (le-leb e r.time (omega arith)) w.1))
+            subst (λ (x : ℕ). is_least x (r ∷ rows) ≡ true) (sym m)
+            (and-true (later w.0) (and-true (le-leb e r.time (omega arith)) w.1))
       ]
 
   pub greatest_more : is_greatest e rows ≡ true → is_greatest (max r.time e) (r ∷ rows) ≡ true
@@ -156,7 +157,8 @@ module _ (r : Row) (rows : List Row) (e : ℕ) where
             le-leb s.time r.time (omega arith)))))
         | no k ↦
             let m : max r.time e ≡ e = omega arith in
-            subst (λ (x : ℕ). is_greatest x (r ∷ rows) ≡ true) (sym m) (and-true (later w.0) (and-true (le-leb r.time e (omega arith)) w.1))
+            subst (λ (x : ℕ). is_greatest x (r ∷ rows) ≡ true) (sym m)
+            (and-true (later w.0) (and-true (le-leb r.time e (omega arith)) w.1))
       ]
 
 given_one : (r : Row) → SumsUp (r ∷ []) (line_of_row r)

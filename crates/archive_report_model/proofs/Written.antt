@@ -60,7 +60,8 @@ hash_byte bs t = go (split_of (last_byte bs)).crc
     go false = omega arith
 
 padded-bytes : (n : ℕ) (xs : List ℕ) → are_bytes xs ≡ true → are_bytes (padded n xs) ≡ true
-padded-bytes n xs t = all_append is_byte xs (replicate (n - length xs) 0) t (all_repeated is_byte (n - length xs) 0 refl)
+padded-bytes n xs t = all_append is_byte xs (replicate (n - length xs) 0) t
+    (all_repeated is_byte (n - length xs) 0 refl)
 
 sealed-bytes : (body : List ℕ) → are_bytes body ≡ true → are_bytes (sealed body) ≡ true
 unfolding sealed

@@ -49,7 +49,8 @@ module _ (tables : List ℕ) (t : is_tables tables ≡ true) where
   first : (b : ℕ) → b < 256 → get_or before b 0 ≡ b
   first b h =
       get_or-append (up_from 0 256) (take 1792 tables) 0 b (omega (arith, length-up_from 0 256))
-      ∙ ap (λ (l : List ℕ). get_or l b 0) (sym (map-id (up_from 0 256))) ∙ get_d_up_from (λ x. x) 0 256 b 0 h ∙ zero-add b
+      ∙ ap (λ (l : List ℕ). get_or l b 0) (sym (map-id (up_from 0 256))) ∙ get_d_up_from (λ x. x) 0 256 b 0 h
+      ∙ zero-add b
 
   later : (i : ℕ) → i < 1792 → get_or before (256 + i) 0 ≡ get_or tables i 0
   later i h =

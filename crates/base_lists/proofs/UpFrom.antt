@@ -16,7 +16,8 @@ use Rattle.base_lists.proofs.Pairwise.{pairwise_append}
 pub up_from_add : (a n m : ℕ) → up_from a (n + m) ≡ up_from a n ++ up_from (a + n) m
 unfolding up_from
 up_from_add a zero m = rw (zero-add, add-zero)
-up_from_add a (suc n) m = rw (suc-add n, add-suc, ← (suc-add a)) (ap (λ (xs : List ℕ). a ∷ xs) (up_from_add (suc a) n m))
+up_from_add a (suc n) m = rw (suc-add n, add-suc, ← (suc-add a))
+    (ap (λ (xs : List ℕ). a ∷ xs) (up_from_add (suc a) n m))
 
 pub length-up_from : (a n : ℕ) → length (up_from a n) ≡ n
 unfolding up_from

@@ -98,4 +98,5 @@ module _ (header : List ℕ) (cells : List (List ℕ)) (h : length header ≡ he
   pub block_cell_lem : (i : ℕ) → i < length cells → block_cell i (block_of header cells) ≡ get_or cells i []
   block_cell_lem i l =
       in_used (header_length + cell_length * i) cell_length (omega (arith, used-length))
-      ∙ right header (flatten cells) header_length (cell_length * i) cell_length h ∙ flatten-part cell_length cells each i l
+      ∙ right header (flatten cells) header_length (cell_length * i) cell_length h
+      ∙ flatten-part cell_length cells each i l

@@ -38,7 +38,8 @@ module _ (s old : List ℕ) (originator destination : ℕ) where
 
 module _ (fields : List ℕ) (originator destination was : ℕ) (output : List ℕ) where
   pub build_other : (length fields ≡ fields_length → ⊥)
-      → (record { number = wrong_size; len = was; output = output }) ≡ build_call fields originator destination was output
+      → (record { number = wrong_size; len = was; output = output })
+      ≡ build_call fields originator destination was output
   unfolding build_call
   build_other h = rw (ne_eqb (length fields) fields_length h)
 

@@ -27,7 +27,8 @@ module _ (a b : List ℕ) (la : length a ≡ max_data) (lb : length b ≡ max_op
 
   second : part 250 15 (resized max_data a ++ resized max_optional b) ≡ b
   second =
-      last (resized max_data a) (resized max_optional b) 250 15 (resized-length max_data a) (resized-length max_optional b)
+      last (resized max_data a) (resized max_optional b) 250 15 (resized-length max_data a)
+      (resized-length max_optional b)
       ∙ resized_whole max_optional b lb
 
 pub said_again : SaidAgain

@@ -17,7 +17,8 @@ use Rattle.collector_burst.specs.declared.Plan.{Plan}
 use Rattle.collector_model.specs.Burst.{max_burst, call_number, burst_number}
 use Rattle.collector_burst.specs.Private.{Planned}
 
-module _ (c : Collector) (setting n m : ℕ) (fit : Bool) (e : fit ≡ acceptable (view_of c)) (fits : Fits (view_of c)) where
+module _ (c : Collector) (setting n m : ℕ) (fit : Bool) (e : fit ≡ acceptable (view_of c))
+    (fits : Fits (view_of c)) where
   abbrev plan : ℕ → Outcome → Plan
   plan count answer = record { fit = fit; count = count; answer = answer }
 

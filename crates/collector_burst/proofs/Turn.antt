@@ -95,7 +95,8 @@ module _ (setting : ℕ) (fit : Bool) (a₀ : Columns) (s₀ : Summary) (rs : Li
             ++ (replies setting fit here l ++ map replied_of (drop n zs)))
             (sym (left i h))
             ∙ g.replied;
-        timely = λ t. g.timely (subst (λ (l : List Reception). Timely (map reception_of l)) (sym (left i h)) (small, t));
+        timely = λ t. g.timely (subst (λ (l : List Reception). Timely (map reception_of l)) (sym (left i h))
+            (small, t));
         none = λ e. absurd (omega arith);
       }
         where

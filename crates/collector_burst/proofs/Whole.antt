@@ -36,7 +36,8 @@ after_steps fit v (r ∷ rs) k t =
     ap (λ (o : StepOutcome). after_tested fit o.next rs) (admission-fit v (reception_of r) fit k.said)
     ∙ after_steps fit (step v (reception_of r)).next rs (tested_next fit (reception_of r) k t.0) t.1
 
-columns_steps : (fit : Bool) (v : View) (rs : List Reception) (a : Columns) → Tested fit v → Timely (map reception_of rs)
+columns_steps : (fit : Bool) (v : View) (rs : List Reception) (a : Columns) → Tested fit v
+    → Timely (map reception_of rs)
     → columns_tested fit v rs a ≡ columns_after_all v (map reception_of rs) a
 unfolding columns_tested columns_after_all
 columns_steps fit v [] a k t = refl

@@ -77,7 +77,8 @@ module _ (image : List ℕ) where
     restore_unreadable e = not-accepted (unreadable e)
 
     module _ (long : length image ≡ image_length) (small : setting_in image ≤ max_setting) where
-      pub restore_other : is_image_of (setting_in image) (parse image) image ≡ false → refused_with v ≡ restore_of v image
+      pub restore_other : is_image_of (setting_in image) (parse image) image ≡ false
+          → refused_with v ≡ restore_of v image
       restore_other e = not-accepted (accepts_is long small ∙ e)
 
       pub restore_done : is_image_of (setting_in image) (parse image) image ≡ true

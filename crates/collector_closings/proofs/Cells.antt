@@ -41,13 +41,15 @@ module _ (a : Columns) (t : ℕ) where
 
   pub one_past : (i : ℕ)
       → entry_cells (closed_at t (entries_at a (i + 1)))
-      ≡ entry_cells (closed_at t (entries_at a i)) ++ cond (not (is_open t (entry_at a i))) (entry_cell (entry_at a i)) []
+      ≡ entry_cells (closed_at t (entries_at a i))
+      ++ cond (not (is_open t (entry_at a i))) (entry_cell (entry_at a i)) []
   one_past i =
       let p : Entry → Bool = λ e. not (is_open t e) in
       ap (λ (l : List Entry). entry_cells (closed_at t l)) (entries-more a i)
       ∙ ap entry_cells (keep_append p (entries_at a i) (entry_at a i ∷ []))
       ∙ cells_append (closed_at t (entries_at a i)) (closed_at t (entry_at a i ∷ []))
-      ∙ ap (λ (l : List ℕ). entry_cells (closed_at t (entries_at a i)) ++ l) (one_cell (entry_at a i) (p (entry_at a i)))
+      ∙ ap (λ (l : List ℕ). entry_cells (closed_at t (entries_at a i)) ++ l)
+      (one_cell (entry_at a i) (p (entry_at a i)))
 
 -- ---- a part of the buffer that was lent, and came back as the text
 

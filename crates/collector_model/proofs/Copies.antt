@@ -47,7 +47,8 @@ module _ (more : ℕ → ℕ) (q : Entry → Bool) where
           → get_or (cond c (x ∷ credit more q l) (cond b (recount more x ∷ l) (x ∷ l))) (suc k) d
           ≡ cond (eqb (suc k) (cond c (suc (last_index q l)) (cond b 0 (suc (length l)))))
           (recount more (get_or l k d)) (get_or l k d)
-      go true b ih = ih ∙ ap (λ (t : Bool). cond t (recount more (get_or l k d)) (get_or l k d)) (eqb-suc k (last_index q l))
+      go true b ih = ih ∙ ap (λ (t : Bool). cond t (recount more (get_or l k d)) (get_or l k d))
+          (eqb-suc k (last_index q l))
       go false true ih = rw (ne_eqb (suc k) 0 (λ e. absurd (omega arith)))
       go false false ih = rw (ne_eqb (suc k) (suc (length l)) (λ e. absurd (omega arith)))
 

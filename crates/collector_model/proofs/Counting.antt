@@ -51,7 +51,8 @@ sum_credit : (q : Entry → Bool) (l : List Entry) → any q l ≡ true
 sum_credit q [] e = absurd (false≢true e)
 sum_credit q (x ∷ l) e = go (q x) (any q l) e (sum_credit q l)
   where
-    go : (b c : Bool) → (b || c) ≡ true → (c ≡ true → sum_of (copies_in (credit one_more q l)) ≡ sum_of (copies_in l) + 1)
+    go : (b c : Bool) → (b || c) ≡ true →
+        (c ≡ true → sum_of (copies_in (credit one_more q l)) ≡ sum_of (copies_in l) + 1)
         → sum_of (copies_in (cond c (x ∷ credit one_more q l) (cond b (recount one_more x ∷ l) (x ∷ l))))
         ≡ x.copies + sum_of (copies_in l) + 1
     go b true h ih = omega (arith, ih refl)
@@ -121,7 +122,8 @@ counted-more log r (Refused n) h o = record { numbers = o.numbers; past = o.past
 
 counted : (past : List Reception) → Counted (log_of past)
 counted [] = record { numbers = λ n h. refl; past = λ n h. refl; sum = refl }
-counted (r ∷ past) = counted-more (log_of past) r (answer_to (log_of past) r) (copy-found (log_of past) r) (counted past)
+counted (r ∷ past) = counted-more (log_of past) r (answer_to (log_of past) r) (copy-found (log_of past) r)
+    (counted past)
 
 -- ---- the claims
 
@@ -131,7 +133,8 @@ numbers_are-answers past =
     let n = length (kept_of log) in
     let f : ℕ → ℕ = λ k. copy_answers k log in
     let long : length (copies_in (kept_of log)) ≡ n = length-map (kept_of log) (λ e. e.copies) in
-    ext_get_or 0 (copies_in (kept_of log)) (map f (up_from 0 n)) (long ∙ sym (length-map (up_from 0 n) f ∙ length-up_from 0 n))
+    ext_get_or 0 (copies_in (kept_of log)) (map f (up_from 0 n))
+    (long ∙ sym (length-map (up_from 0 n) f ∙ length-up_from 0 n))
     (λ k h.
     let low : k < n = omega (arith, long) in
     (counted past).numbers k low ∙ sym (get_d_up_from f 0 n k 0 low ∙ ap f (zero-add k)))
@@ -177,7 +180,8 @@ heard_is_answers past k h =
     let counts : get_or (copies_in opens) k 0 ≡ copy_answers (closed_count log + k) log =
     count_at opens k h ∙ ap (λ (m : List Entry). (get_or m k no_entry).copies) end
     ∙ ap (λ (e : Entry). e.copies) (get_or-drop (closed_count log) l k no_entry)
-    ∙ sym (count_at l (closed_count log + k) (omega arith)) ∙ (counted past).numbers (closed_count log + k) (omega arith)
+    ∙ sym (count_at l (closed_count log + k) (omega arith))
+    ∙ (counted past).numbers (closed_count log + k) (omega arith)
     in
     rw (lt-ltb k (length (copies_in opens)) (omega (arith, long)), counts)
 

@@ -277,5 +277,6 @@ exact = record {
   not_said = λ v e image a p. true≢false (sym (accepted-says image a).view ∙ ap acceptable p ∙ e);
   small_setting = λ image e. (accepted-says image e).small;
   acceptable_view = λ image e. (accepted-says image e).view;
-  written = λ image e. equal_eq (image_with (setting_in image) (parse image)) image (rw (accepted-says image e).same tt);
+  written = λ image e. equal_eq (image_with (setting_in image) (parse image)) image
+      (rw (accepted-says image e).same tt);
 }

@@ -171,7 +171,8 @@ ordered-more log r (Refused n) h o = record { order = o.order; low = o.low }
 
 pub ordered : (past : List Reception) → Ordered (log_of past)
 ordered [] = record { order = refl; low = refl }
-ordered (r ∷ past) = ordered-more (log_of past) r (answer_to (log_of past) r) (kept-latest (log_of past) r) (ordered past)
+ordered (r ∷ past) = ordered-more (log_of past) r (answer_to (log_of past) r) (kept-latest (log_of past) r)
+    (ordered past)
 
 open_ordered : (past : List Reception) (t : ℕ) → pairwise in_time (open_at t (log_of past)) ≡ true
 open_ordered past t = pairwise-keep in_time (is_open t) (kept_of (log_of past)) (ordered past).order

@@ -94,8 +94,10 @@ each-new before (e ∷ l) order =
     let behind : List Entry = before ++ (e ∷ []) in
     let together : behind ++ l ≡ before ++ (e ∷ l) = append_assoc before (e ∷ []) l in
     let rest = each-new behind l (ap (pairwise in_time) together ∙ order) in
-    let split : all (λ f. all (λ x. is_new x f) behind) l ≡ (all (λ f. all (λ x. is_new x f) before) l && all (is_new e) l)
-    = all_ext (λ f. all (λ x. is_new x f) behind) (λ f. all (λ x. is_new x f) before && is_new e f) (one_more before e) l
+    let split : all (λ f. all (λ x. is_new x f) behind) l
+    ≡ (all (λ f. all (λ x. is_new x f) before) l && all (is_new e) l)
+    = all_ext (λ f. all (λ x. is_new x f) behind) (λ f. all (λ x. is_new x f) before && is_new e f)
+    (one_more before e) l
     ∙ all_and (λ f. all (λ x. is_new x f) before) (is_new e) l in
     regroup (all (λ x. is_new x e) before) (all (λ f. all (λ x. is_new x f) before) l)
     (all (is_new e) l) (pairwise is_new l)

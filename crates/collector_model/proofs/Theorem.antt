@@ -139,7 +139,12 @@ module _ (setting : ℕ) (past rs : List Reception) (places : List Replied)
   same_taken = ap (λ (b : Bool). cond b rs []) (not_refused setting (length rs) (length places))
 
   abbrev result_of : ℕ → List Reception → BurstResult
-  result_of n l = record { number = n; replies = replies_to setting v l ++ drop (length l) places; next = after_all v l }
+  result_of n l = record {
+    number = n;
+    replies = replies_to setting v l
+        ++ drop (length l) places;
+    next = after_all v l;
+  }
 
   pub same_burst : burst_of setting v rs places ≡ record {
     number = call_number setting (length rs) (length places);

@@ -1,5 +1,6 @@
 // The types that the collector shows to its callers. What it does is in specs/; what holds for every history is in specs/History.antt.
 #![tactic(auto)]
+
 use base_refusal::Refusal;
 
 // Each total is the number of such answers in the history; received counts all but 8 (document 01, "Merging").

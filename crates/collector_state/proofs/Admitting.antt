@@ -55,7 +55,8 @@ valid-fits s e = let f = check_facts s (eqb-true _ 0 e) in (f.low, f.high)
 pub kept-room : (v : View) (r : Reception) → is_kept (answer_on v r) ≡ true
     → (length (left_after v r) < capacity) × (is_valid r.bytes ≡ true)
 unfolding answer_for
-kept-room v r = go (eqb (number_on v r) 0) (has_copy (left_after v r) r) (leb capacity (length (left_after v r))) refl refl
+kept-room v r = go (eqb (number_on v r) 0) (has_copy (left_after v r) r)
+    (leb capacity (length (left_after v r))) refl refl
   where
     go : (b k c : Bool) → eqb (number_on v r) 0 ≡ b → leb capacity (length (left_after v r)) ≡ c
         → is_kept (cond b (cond k Copy (cond c Loose Kept)) (Refused (number_on v r))) ≡ true
@@ -101,7 +102,8 @@ is_accepted_lem v r z =
     rw z (go (has_copy (open_from r.time v.entries) r) (leb capacity (length (open_from r.time v.entries))))
   where
     go : (k c : Bool)
-        → (is_accepted (cond k Copy (cond c Loose Kept)) ≡ true) × (is_received (cond k Copy (cond c Loose Kept)) ≡ true)
+        → (is_accepted (cond k Copy (cond c Loose Kept)) ≡ true)
+        × (is_received (cond k Copy (cond c Loose Kept)) ≡ true)
     go true c = (refl, refl)
     go false true = (refl, refl)
     go false false = (refl, refl)
@@ -252,7 +254,8 @@ module _ {a : Columns} {s : Summary} {r : Reception} {gone : ℕ} (k : Looked a 
           (omega (arith, w.0, open_length), (valid-fits r.bytes w.1).1)
 
       -- the law: what is decided, carried out column by column, is what `admitted` says
-      module _ {heard : Bool} (hears : heard ≡ is_copy (shown_of answer)) {count : ℕ} (counts : count ≡ plus_if kept left)
+      module _ {heard : Bool} (hears : heard ≡ is_copy (shown_of answer)) {count : ℕ}
+          (counts : count ≡ plus_if kept left)
           {totals : Totals} (tallies : totals ≡ tally (shown_of answer) s.totals) (few : s.count ≤ capacity) where
         abbrev decision : Decision
         decision = record {
@@ -266,7 +269,8 @@ module _ {a : Columns} {s : Summary} {r : Reception} {gone : ℕ} (k : Looked a 
         }
 
         next_entries : Whole a
-            → entries_at (changed decision r a) (plus_if kept left) ≡ entries_with (shown_of answer) r (left_after view r)
+            → entries_at (changed decision r a) (plus_if kept left)
+            ≡ entries_with (shown_of answer) r (left_after view r)
         next_entries whole =
             let below = k.expired.few in
             changed-entries a whole decision s.count (omega arith) few r room (λ e. by.entry (sym hears ∙ e))

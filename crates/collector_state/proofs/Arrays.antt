@@ -69,7 +69,8 @@ module _ (a : Columns) where
   entries_at_lem : (i n : ℕ) → entries_at a (i + suc n)
       ≡ entries_at a i ++ (entry_at a i ∷ map (entry_at a) (up_from (suc i) n))
   unfolding entries_at up_from
-  entries_at_lem i n = rw (up_from_add 0 i (suc n), zero-add) (map-append (entry_at a) (up_from 0 i) (up_from i (suc n)))
+  entries_at_lem i n = rw (up_from_add 0 i (suc n), zero-add)
+      (map-append (entry_at a) (up_from 0 i) (up_from i (suc n)))
 
   pub entries-more : (i : ℕ) → entries_at a (i + 1) ≡ entries_at a i ++ (entry_at a i ∷ [])
   unfolding up_from

@@ -51,7 +51,8 @@ resized_at n xs k h = get_or-take n (padded n xs) k 0 h ∙ padded_at n xs k
 -- an entry with another byte before STATUS is another telegram, whatever its length is
 module _ (lens bytes : List ℕ) (i : ℕ) (xs : List ℕ) (low : min_length ≤ length xs)
     (high : length xs ≤ max_length) (k : ℕ) (before : k < length xs - 2) where
-  pub other_byte : (get_or bytes (max_length * i + k) 0 ≡ get_or xs k 0 → ⊥) → is_same (shown_at lens bytes i) xs ≡ false
+  pub other_byte : (get_or bytes (max_length * i + k) 0 ≡ get_or xs k 0 → ⊥)
+      → is_same (shown_at lens bytes i) xs ≡ false
   other_byte n = fails (is_same (shown_at lens bytes i) xs) differs
     where
       differs : is_same (shown_at lens bytes i) xs ≡ true → ⊥

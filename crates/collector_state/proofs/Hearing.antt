@@ -27,7 +27,8 @@ module _ (c : Collector) (k : ℕ) where
     unfolding view_of
     heard_few = omega (arith, accepted_few (view_of c) ok, entries-length (columns_of c) c.summary.count)
 
-    pub heard-closed : c.summary.count ≤ k → record { number = number_of Argument; copies = 0 } ≡ copies_of (view_of c) k
+    pub heard-closed : c.summary.count ≤ k
+        → record { number = number_of Argument; copies = 0 } ≡ copies_of (view_of c) k
     unfolding copies_of view_of
     heard-closed h = rw (ok, entries-length (columns_of c) c.summary.count, le-leb c.summary.count k h)
 

@@ -107,9 +107,11 @@ module _ (lens bytes : List ℕ) (i : ℕ) where
 
   pub long-not-valid : max_length < get_or lens i 0 → is_valid (shown_at lens bytes i) ≡ false
   long-not-valid h =
-      fails (is_valid (shown_at lens bytes i)) (λ e. omega (arith, valid-length (shown_at lens bytes i) e, shown-length))
+      fails (is_valid (shown_at lens bytes i))
+      (λ e. omega (arith, valid-length (shown_at lens bytes i) e, shown-length))
 
-  pub valid-len : is_valid (shown_at lens bytes i) ≡ true → (min_length ≤ get_or lens i 0) × (get_or lens i 0 ≤ max_length)
+  pub valid-len : is_valid (shown_at lens bytes i) ≡ true
+      → (min_length ≤ get_or lens i 0) × (get_or lens i 0 ≤ max_length)
   valid-len e =
       let f = check_facts (shown_at lens bytes i) (eqb-true _ 0 e) in
       (omega (arith, f.low, shown-length), omega (arith, f.high, shown-length))

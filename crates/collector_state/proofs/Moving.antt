@@ -169,7 +169,8 @@ module _ (a : Columns) (i n : ℕ) (r : Reception) (long : n ≤ length a.copies
       rw (same, get_or-set_same a.copies i (capped (get_or a.copies i 0 + 1)) 0 (omega arith))))
       (λ e. rw (e, get_or-set_other a.copies i k (capped (get_or a.copies i 0 + 1)) 0 (eqb-false k i e)))
 
-  credited_all : i ≡ last_copy (entries_at a n) r → entries_at (more_copies true i a) n ≡ credit_if true r (entries_at a n)
+  credited_all : i ≡ last_copy (entries_at a n) r
+      → entries_at (more_copies true i a) n ≡ credit_if true r (entries_at a n)
   unfolding last_copy
   credited_all e =
       ext_get_or no_entry (entries_at (more_copies true i a) n) (credit_if true r (entries_at a n))

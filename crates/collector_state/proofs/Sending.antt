@@ -29,7 +29,8 @@ module _ (setting : ℕ) (a : Shown) (bytes out : List ℕ) where
   unfolding relayed_for
   relay_nothing e = rw e
 
-  pub relay_anything : is_kept a ≡ true → written (relay_of setting bytes) out ≡ written (relayed_for setting a bytes) out
+  pub relay_anything : is_kept a ≡ true → written (relay_of setting bytes) out
+      ≡ written (relayed_for setting a bytes) out
   unfolding relayed_for
   relay_anything e = rw e
 

@@ -48,7 +48,8 @@ module _ (bytes : List ℕ) where
 
   pub replies-count : length (replies_in_places bytes) ≡ length bytes / reply_length
   unfolding replies_in_places
-  replies-count = length-map (up_from 0 (length bytes / reply_length)) at ∙ length-up_from 0 (length bytes / reply_length)
+  replies-count = length-map (up_from 0 (length bytes / reply_length)) at
+      ∙ length-up_from 0 (length bytes / reply_length)
 
   pub reply_at : (i : ℕ) → i < length bytes / reply_length
       → get_or (replies_in_places bytes) i none ≡ replied_in (part (reply_length * i) reply_length bytes)

@@ -117,7 +117,8 @@ module _ {s s' : Arrays} {n : ℕ} {t : Totals} {exit : List ℕ} (seen : t ≡ 
   delivered setting rs old new places m k e long put = record {
     bytes =
         put
-        ∙ ap₂ (λ (x : Totals) (y : ℕ). head_of delivering n x ++ be 8 y ++ flatten (map reply_of (replies_in_places new)))
+        ∙ ap₂ (λ (x : Totals) (y : ℕ). head_of delivering n x ++ be 8 y
+        ++ flatten (map reply_of (replies_in_places new)))
         seen
         (sym long)
         ∙ making.delivered (state_at s) setting rs places

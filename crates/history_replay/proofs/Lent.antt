@@ -91,7 +91,8 @@ module _ (s : List ℕ) (n : ℕ) where
   frames_count = length-map (up_from 0 n) _ ∙ length-up_from 0 n
 
   pub frame_at : (i : ℕ) → i < n → get_or frames i [] ≡ frame_in (record_at s i)
-  frame_at i h = get_d_up_from (λ i. frame_in (record_at s i)) 0 n i [] h ∙ ap (λ i. frame_in (record_at s i)) (zero-add i)
+  frame_at i h = get_d_up_from (λ i. frame_in (record_at s i)) 0 n i [] h
+      ∙ ap (λ i. frame_in (record_at s i)) (zero-add i)
 
   moment_at : (i : ℕ) → i < n → get_or moments i 0 ≡ number_at 1 (record_at s i)
   moment_at i h =
@@ -113,11 +114,13 @@ module _ (s : List ℕ) (n : ℕ) where
     pub receptions-lent : n ≡ record_count s → c_burst.receptions_in moments (flatten frames) ≡ burst_receptions_in s
     unfolding c_burst.receptions_in burst_receptions_in
     receptions-lent e =
-        ap (λ k. map (λ i. c_burst.reception_in (part (frame_length * i) frame_length (flatten frames)) (get_or moments i 0))
+        ap (λ k. map (λ i. c_burst.reception_in (part (frame_length * i) frame_length (flatten frames))
+        (get_or moments i 0))
         (up_from 0 k))
         moments-count
         ∙ map_same _ _ 0 n (λ i low h. same i (omega arith))
-        ∙ ap (λ k. map (λ i. c_burst.reception_in (frame_in (record_at s i)) (number_at 1 (record_at s i))) (up_from 0 k)) e
+        ∙ ap (λ k. map (λ i. c_burst.reception_in (frame_in (record_at s i)) (number_at 1 (record_at s i)))
+        (up_from 0 k)) e
       where
         same : (i : ℕ) → i < n
             → c_burst.reception_in (part (frame_length * i) frame_length (flatten frames)) (get_or moments i 0)
@@ -148,11 +151,13 @@ module _ (r : List ℕ) (m : ℕ) (whole : length r ≡ call_length) where
       ∙ ap (λ k. suc (suc (suc k))) (part_length 27 max_length r (omega arith))
 
   pub old-length : length (flatten (old r m)) ≡ c_burst.reply_length * m
-  old-length = flatten-length c_burst.reply_length (old r m) each-old ∙ ap (λ k. c_burst.reply_length * k) (old-count r m)
+  old-length = flatten-length c_burst.reply_length (old r m) each-old
+      ∙ ap (λ k. c_burst.reply_length * k) (old-count r m)
 
   pub places_lent : replies_in_places (flatten (old r m)) ≡ replicate m (place_in r)
   places_lent =
-      ext_get_or none (replies_in_places bytes) (replicate m (place_in r)) (count ∙ sym (length-replicate m (place_in r)))
+      ext_get_or none (replies_in_places bytes) (replicate m (place_in r))
+      (count ∙ sym (length-replicate m (place_in r)))
       (λ i h. same i (omega (arith, count)))
     where
       room : length bytes / c_burst.reply_length ≡ m

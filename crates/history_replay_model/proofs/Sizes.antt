@@ -70,6 +70,7 @@ size_append (k ∷ h) g = rw (size_append h g) (omega arith)
 
 pub size-part : (n : ℕ) (h : List Call) → size_of_all (take n h) ≤ size_of_all h
 size-part n h =
-    let e : size_of_all h ≡ size_of_all (take n h) + size_of_all (drop n h) = ap size_of_all (sym (take-append-drop n h))
+    let e : size_of_all h ≡ size_of_all (take n h)
+    + size_of_all (drop n h) = ap size_of_all (sym (take-append-drop n h))
     ∙ size_append (take n h) (drop n h) in
     omega arith

@@ -43,7 +43,8 @@ totals_whole log g = record {
 copies-small : (log : List Logged) (k : ℕ) → (heard_by log k).copies < 2 ^ 64
 unfolding heard_by
 copies-small log k =
-    by_test (ltb k (length (copies_in (open_at (latest_of log) log)))) (λ t. rw t (omega arith)) (λ t. rw t (omega arith))
+    by_test (ltb k (length (copies_in (open_at (latest_of log) log)))) (λ t. rw t (omega arith))
+    (λ t. rw t (omega arith))
 
 saved-length : (log : List Logged) (output : List ℕ) → Good (model_view log)
     → length (saved_by log output).output ≡ length output
@@ -145,7 +146,11 @@ whole past g (Burst setting rs places ∷ h) ok held =
       ),
       whole (past_after past t) next h ok.1 held.2,
     )
-whole past g (Ask k ∷ h) ok held = ((copies-small (log_of past) k, totals_whole (log_of past) g), whole past g h ok held)
+whole past g (Ask k ∷ h) ok held = (
+  (copies-small (log_of past) k, totals_whole (log_of past) g),
+  whole past g h ok
+      held,
+)
 whole past g (Look ∷ h) ok held = (totals_whole (log_of past) g, whole past g h ok held)
 
 fresh_good : Good (model_view [])

@@ -238,7 +238,13 @@ goes_on past more next few t =
     let h = rows_thinned past more in
     let from = latest_of (log_of p) in
     let less : length q ≤ length p
-    = omega (arith, length-append more past, length-append (alone (log_since past more)) past, length-alone past more) in
+    = omega (
+      arith,
+      length-append more past,
+      length-append
+          (alone (log_since past more)) past,
+      length-alone past more,
+    ) in
     let g = going from p q next (record { openings = h.openings; latest = omega (arith, h.latest) }) less few t in
     record {
       answers = g.answers;

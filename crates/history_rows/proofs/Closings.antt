@@ -94,7 +94,8 @@ closed_so_far [] = refl
 closed_so_far (r ∷ past) = go (answer_to (log_of past) r) (accepted-latest (log_of past) r) (closed_so_far past)
   where
     -- of the telegrams opened before
-    so_far : closings past ≡ closed_at (latest_of (log_of past)) (kept_of (log_of past)) → latest_of (log_of past) ≤ r.time
+    so_far : closings past ≡ closed_at (latest_of (log_of past)) (kept_of (log_of past))
+        → latest_of (log_of past) ≤ r.time
         → closings past ++ closed_at r.time (open_at (latest_of (log_of past)) (log_of past))
         ≡ closed_at r.time (kept_of (log_of past))
     so_far ih h =
@@ -107,7 +108,8 @@ closed_so_far (r ∷ past) = go (answer_to (log_of past) r) (accepted-latest (lo
     go : (a : Shown) → (is_accepted a ≡ true → latest_of (log_of past) ≤ r.time)
         → closings past ≡ closed_at (latest_of (log_of past)) (kept_of (log_of past))
         → closings past ++ closed_by (log_of past) r a
-        ≡ closed_at (latest_of (record { reception = r; answer = a } ∷ log_of past)) (kept_after (kept_of (log_of past)) r a)
+        ≡ closed_at (latest_of (record { reception = r; answer = a } ∷ log_of past))
+        (kept_after (kept_of (log_of past)) r a)
     go Kept h ih =
         let now : is_open r.time (opened r) ≡ true = le-leb (r.time - r.time) maturity (omega arith) in
         rw (max-eq_left (h refl), keep_append (is_shut r.time) (kept_of (log_of past)) (opened r ∷ []), now)
@@ -136,7 +138,8 @@ kept-receptions (e ∷ log) = go e.reception e.answer (kept-receptions log)
     go : (r : Reception) (a : Shown) → map opened_by (kept_of log) ≡ kept_receptions log
         → map opened_by (kept_after (kept_of log) r a) ≡ kept_receptions log ++ cond (is_kept a) (r ∷ []) []
     go r Kept ih = map-append opened_by (kept_of log) (opened r ∷ []) ∙ ap (λ (l : List Reception). l ++ (r ∷ [])) ih
-    go r Copy ih = opened-credit (λ n. n + 1) (is_open_copy r) (kept_of log) ∙ ih ∙ sym (append-nil (kept_receptions log))
+    go r Copy ih = opened-credit (λ n. n + 1) (is_open_copy r) (kept_of log) ∙ ih
+        ∙ sym (append-nil (kept_receptions log))
     go r Loose ih = ih ∙ sym (append-nil (kept_receptions log))
     go r (Refused n) ih = ih ∙ sym (append-nil (kept_receptions log))
 
@@ -170,7 +173,8 @@ each_once past =
 
 -- ---- views
 
-closed-view : (log : List Logged) (r : Reception) (a : Shown) → closed_from (model_view log) r a ≡ cap (closed_by log r a)
+closed-view : (log : List Logged) (r : Reception) (a : Shown)
+    → closed_from (model_view log) r a ≡ cap (closed_by log r a)
 unfolding model_view
 closed-view log r a = go (is_accepted a)
   where
@@ -188,7 +192,8 @@ closings-more past r rest =
     let a = answer_to (log_of past) r in
     ap (λ (m : List Entry). cap (closings past) ++ (m ++ rest)) (closed-view (log_of past) r a)
     ∙ sym (append_assoc (cap (closings past)) (cap (closed_by (log_of past) r a)) rest)
-    ∙ ap (λ (m : List Entry). m ++ rest) (sym (map-append (recount capped) (closings past) (closed_by (log_of past) r a)))
+    ∙ ap (λ (m : List Entry). m ++ rest) (sym
+    (map-append (recount capped) (closings past) (closed_by (log_of past) r a)))
 
 closings-from : (past rs : List Reception) → Good (model_view (log_of past)) → Timely rs
     → cap (closings past) ++ closings_from (model_view (log_of past)) rs ≡ cap (closings (past_after past rs))

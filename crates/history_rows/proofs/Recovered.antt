@@ -50,7 +50,8 @@ record Following (from : ℕ) (p q : List Reception) (gs : List Given) : Type 0 
   replies : replies_at p gs ≡ replies_at q gs
   follows : Follows from (log_of (past_after p (bare gs))) (log_of (past_after q (bare gs)))
 
-following : (from : ℕ) (p q : List Reception) (gs : List Given) → Follows from (log_of p) (log_of q) → length q ≤ length p
+following : (from : ℕ) (p q : List Reception) (gs : List Given) → Follows from (log_of p) (log_of q)
+    → length q ≤ length p
     → length p + length gs < 2 ^ 64 → all (λ g. leb from g.reception.time) gs ≡ true → Following from p q gs
 following from p q [] h less few t = record { replies = refl; follows = h }
 following from p q (g ∷ gs) h less few t =
@@ -93,7 +94,8 @@ module _ {State : Type 0} (view : State → View) where
       let alone : view (left_by view u) ≡ model_view (log_of q)
       = left-model view past u (ap (λ (r : RestoreResult). r.next) back) good rows_ok
       ∙ ap (λ (gs : List Given). model_view (log_of (past_after past (bare gs)))) (receptions-one_by_one rows) in
-      let good-p : Good (model_view (log_of p)) = burst_good past (bare (receptions_of g)) good (history_timely g ok-g) in
+      let good-p : Good (model_view (log_of p)) =
+      burst_good past (bare (receptions_of g)) good (history_timely g ok-g) in
       let good-q : Good (model_view (log_of q)) = burst_good past (bare rows) good rows_few in
       let b =
       (both_runs past past (receptions_of g)

@@ -34,7 +34,8 @@ pub record Level (whole thin : List Logged) : Type 0 where
 pub record Both (p q : List Reception) (gs : List Given) : Type 0 where
   pub replies : row_replies (replies_at p gs) ≡ replies_at q (rows_among p gs)
   pub level : Level (log_of (past_after p (bare gs))) (log_of (past_after q (bare (rows_among p gs))))
-  pub latest : latest_of (log_of (past_after q (bare (rows_among p gs)))) ≡ last_time (latest_of (log_of q)) (rows_among p gs)
+  pub latest : latest_of (log_of (past_after q (bare (rows_among p gs))))
+      ≡ last_time (latest_of (log_of q)) (rows_among p gs)
 
 pub both_runs : (p q : List Reception) (gs : List Given) → Level (log_of p) (log_of q) → Both p q gs
 both_runs p q [] h = record { replies = refl; level = h; latest = refl }
@@ -71,7 +72,8 @@ both_runs p q (g ∷ gs) h =
 
 -- ---- views
 
-view-openings : (log : List Logged) → map opened_by (model_view log).entries ≡ map opened_by (open_at (latest_of log) log)
+view-openings : (log : List Logged) → map opened_by (model_view log).entries
+    ≡ map opened_by (open_at (latest_of log) log)
 unfolding model_view
 view-openings log = capped-openings (open_at (latest_of log) log)
 
@@ -127,7 +129,8 @@ rows-timely past (g ∷ gs) t =
 module _ {State : Type 0} (view : State → View) where
   pub replies-from : (past : List Reception) {c : State} {h : List Call} {l : List Seen}
       → view c ≡ model_view (log_of past)
-      → Good (model_view (log_of past)) → IsHistory h → Shows view c h l → replies_in h l ≡ replies_at past (receptions_of h)
+      → Good (model_view (log_of past)) → IsHistory h → Shows view c h l
+      → replies_in h l ≡ replies_at past (receptions_of h)
   replies-from past {h = h} e g ok t =
       ap (replies_in h) (shows-run view t ∙ ap (λ v. run v h) e ∙ same_run past h g ok) ∙ expected-replies past h
 

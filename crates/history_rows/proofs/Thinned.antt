@@ -26,7 +26,8 @@ use Rattle.history_rows.specs.Rows.{is_row_answer}
 -- ---- openings
 
 -- a copy that is counted opens nothing
-pub opened-credit : (more : ℕ → ℕ) (q : Entry → Bool) (l : List Entry) → map opened_by (credit more q l) ≡ map opened_by l
+pub opened-credit : (more : ℕ → ℕ) (q : Entry → Bool) (l : List Entry)
+    → map opened_by (credit more q l) ≡ map opened_by l
 opened-credit more q [] = refl
 opened-credit more q (x ∷ l) = go (any q l) (q x) (opened-credit more q l)
   where

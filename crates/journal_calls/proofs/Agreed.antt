@@ -106,7 +106,8 @@ module _ (t : ℕ) (row : List ℕ) (u : ℕ) (other : List ℕ) where
   pub same_length : (get_or other 1 0 ≡ get_or row 1 0 → ⊥) → false ≡ same?
   same_length h = rw (lengths_differ (get_or row 1 0) (get_or other 1 0) (drop 2 row) (drop 2 other) h)
 
-  pub same_loose_lem : disk.same_loose (not (eqb (get_or row 0 0) 0)) (not (eqb (get_or other 0 0) 0)) ≡ false → false ≡ same?
+  pub same_loose_lem : disk.same_loose (not (eqb (get_or row 0 0) 0)) (not (eqb (get_or other 0 0) 0)) ≡ false
+      → false ≡ same?
   same_loose_lem h = and_no (equal (row_given t row).bytes (row_given u other).bytes) _ (sym (and_no (eqb t u) _ h))
 
   pub same_bytes : (len : ℕ) → length row ≡ row_length → length other ≡ row_length → len ≡ get_or row 1 0 → t ≡ u
@@ -140,7 +141,8 @@ module _ (new left : List Row) (i : ℕ) where
   rest j = disk.agreeing (drop j new) (drop j left)
 
   module _ (h : i < length new) (k : i < length left) where
-    pub agree_next : disk.same_row (get_or new i no_row) (get_or left i no_row) ≡ true → i + rest i ≡ i + 1 + rest (i + 1)
+    pub agree_next : disk.same_row (get_or new i no_row) (get_or left i no_row) ≡ true
+        → i + rest i ≡ i + 1 + rest (i + 1)
     unfolding disk.agreeing
     agree_next e = rw (drop-cons new i no_row h, drop-cons left i no_row k, e, add-one i) (omega arith)
 

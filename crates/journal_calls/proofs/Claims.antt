@@ -135,7 +135,8 @@ module _ (limit : ℕ) where
     count_on t s c =
         let few = tests b (both (is_sound b) _ t).0 in
         let full = ltb-false (row_count b) cells_per_block s in
-        let n : length (run_from limit k (b ∷ bs)) ≡ row_count b + length (run_from limit (suc k) bs) = found t ∙ rw s in
+        let n : length (run_from limit k (b ∷ bs))
+        ≡ row_count b + length (run_from limit (suc k) bs) = found t ∙ rw s in
         record {
           rows = ap (λ (q : Run). q.rows) (more t) ∙ c.rows ∙ omega arith;
           blocks = ap (λ (q : Run). q.blocks) (more t) ∙ c.blocks ∙ omega (arith, few.1);

@@ -221,7 +221,8 @@ module _ (piece : List ℕ) where
       rw z
 
   pub rest_next : (r : Run) (n i : ℕ) → i < n
-      → run_blocks r (blocks_from piece i (n - i)) ≡ run_blocks (run_block r (part (block_length * i) block_length piece))
+      → run_blocks r (blocks_from piece i (n - i))
+      ≡ run_blocks (run_block r (part (block_length * i) block_length piece))
       (blocks_from piece (i + 1) (n - (i + 1)))
   unfolding blocks_from up_from run_blocks
   rest_next r n i h =

@@ -38,7 +38,8 @@ module _ (k : Kept) (z : IsKept k) (h : is_lawful_state k ≡ true) where
   taken : accepts_state file ≡ true
   unfolding accepts_state
   taken =
-      let said : cond (eqb (length file) old_length) (is_plain (read_state file)) true ≡ true = rw (state-length k z 2) in
+      let said : cond (eqb (length file) old_length) (is_plain (read_state file)) true
+      ≡ true = rw (state-length k z 2) in
       let law : is_lawful_state (read_state file) ≡ true = ap is_lawful_state (read_back k z 2 h) ∙ h in
       let again : equal (take (length file) (state_bytes (read_state file) (version_of (length file)))) file ≡ true =
       ap (λ (l : List ℕ). equal l file) same ∙ equal-refl file in

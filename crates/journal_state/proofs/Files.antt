@@ -101,7 +101,8 @@ module _ (bytes : List ℕ) where
       accept_done h = rw (long, h)
 
 module _ (k : Kept) (output : List ℕ) where
-  pub write_not : is_lawful_state k ≡ false → record { number = number_of NotAccepted; output = output } ≡ write_of k output
+  pub write_not : is_lawful_state k ≡ false
+      → record { number = number_of NotAccepted; output = output } ≡ write_of k output
   unfolding write_of
   write_not h = rw h
 

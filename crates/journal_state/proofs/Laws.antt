@@ -123,7 +123,8 @@ module _ (k : Kept) where
       unfolding is_placed
       tail_none e = rw (le-leb (tail_length k) max_tail short, clean, eq-eqb (logged k) 0 e)
 
-      pub tail_some : (logged k ≡ 0 → ⊥) → eqb (logged k) 1 && eqb (tail_length k) (min (offset k) max_tail) ≡ is_placed k
+      pub tail_some : (logged k ≡ 0 → ⊥) → eqb (logged k) 1 && eqb (tail_length k) (min (offset k) max_tail)
+          ≡ is_placed k
       unfolding is_placed
       tail_some n = rw (le-leb (tail_length k) max_tail short, clean, ne_eqb (logged k) 0 n)
 
@@ -228,7 +229,8 @@ module _ (image : List ℕ) (c : Collector) (new : view_of c ≡ fresh) (r : Res
     rows-counted = ap (λ (n : Totals). n.kept + n.loose) totals_are
 
     pub rows_fit : r.next.summary.totals.received
-        ≡ r.next.summary.totals.kept + r.next.summary.totals.copies + r.next.summary.totals.loose + r.next.summary.totals.damaged
+        ≡ r.next.summary.totals.kept + r.next.summary.totals.copies + r.next.summary.totals.loose
+        + r.next.summary.totals.damaged
         + r.next.summary.totals.late
     unfolding parse
     rows_fit =

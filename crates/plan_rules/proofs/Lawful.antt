@@ -53,7 +53,8 @@ clear rule level e =
 record Clear (rule level : ℕ) : Type 0 where
   least : 2 ≤ (offer_of rule level).fewest
   top : (offer_of rule level).most ≤ 3
-  slots : 3 ≤ (offer_of rule level).most → (empty (third_of rule level) ≡ false) × ((third_of rule level).last < no_slot)
+  slots : 3 ≤ (offer_of rule level).most → (empty (third_of rule level) ≡ false)
+      × ((third_of rule level).last < no_slot)
 
 clear_row : (rule level : ℕ) → is_rule_and_level rule level ≡ true → Clear rule level
 clear_row rule level e =
@@ -148,7 +149,8 @@ unfolding is_lawful_by plan_by
 lawful_picked rule level d p e =
     let n = transmissions_of p in
     let t =
-    both (is_duration d) (is_rule_and_level rule level && (is_offered rule level n && lawful (rule_of rule level n) d p)) e in
+    both (is_duration d) (is_rule_and_level rule level
+    && (is_offered rule level n && lawful (rule_of rule level n) d p)) e in
     let u = both (is_rule_and_level rule level) (is_offered rule level n && lawful (rule_of rule level n) d p) t.1 in
     let v = both (is_offered rule level n) (lawful (rule_of rule level n) d p) u.1 in
     let w = lawful-drawn (rule_of rule level n) d p v.1 in

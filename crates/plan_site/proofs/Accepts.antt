@@ -160,7 +160,8 @@ none_pair i [] e = refl
 none_pair i (a ∷ l) e = go (any (clash a) l) refl (λ f. none_pair (suc i) l f) e
   where
     go : (x : Bool) → any (clash a) l ≡ x → ((pair_of (suc i) l).number ≡ 0 → pairwise peace l ≡ true)
-        → (cond x (site_answer (number_of refusal.Overlap) i (suc i + first_of (clash a) l)) (pair_of (suc i) l)).number ≡ 0
+        → (cond x (site_answer (number_of refusal.Overlap) i (suc i + first_of (clash a) l))
+        (pair_of (suc i) l)).number ≡ 0
         → pairwise peace (a ∷ l) ≡ true
     go true k ih f = absurd (refused-number refusal.Overlap f)
     go false k ih f = and-true (none (clash a) l k) (ih f)

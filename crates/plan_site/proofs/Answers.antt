@@ -34,7 +34,8 @@ module _ (count : ℕ) (repeaters : List Assignment) where
       unfolding site_of
       unlawful h =
           let some : not (all has_lawful_plan (take count repeaters)) ≡ true
-          = not_all has_lawful_plan (take count repeaters) ∙ any_first (λ b. not (has_lawful_plan b)) (take count repeaters)
+          = not_all has_lawful_plan (take count repeaters)
+          ∙ any_first (λ b. not (has_lawful_plan b)) (take count repeaters)
           ∙ lt-ltb (first_of (λ b. not (has_lawful_plan b)) (take count repeaters))
           (length (take count repeaters)) (omega (arith, known-length)) in
           simp (le-ltb max_repeaters count few, known, not-true (all has_lawful_plan (take count repeaters)) some, e)
@@ -43,7 +44,8 @@ module _ (count : ℕ) (repeaters : List Assignment) where
       unfolding site_of
       lawful_pairs h =
           let no : not (all has_lawful_plan (take count repeaters)) ≡ false
-          = not_all has_lawful_plan (take count repeaters) ∙ any_first (λ b. not (has_lawful_plan b)) (take count repeaters)
+          = not_all has_lawful_plan (take count repeaters)
+          ∙ any_first (λ b. not (has_lawful_plan b)) (take count repeaters)
           ∙ le-ltb (first_of (λ b. not (has_lawful_plan b)) (take count repeaters))
           (length (take count repeaters)) (omega (arith, known-length)) in
           simp (le-ltb max_repeaters count few, known, not-false (all has_lawful_plan (take count repeaters)) no)

@@ -62,7 +62,8 @@ module _ (a : Assignment) (l : List Assignment) where
       second zero h k = absurd (not-suc-le-zero h)
       second (suc m) h k = first_before (clash a) no_assignment l m (le_of_suc-le-suc k)
 
-  free : any (clash a) l ≡ false → (m : ℕ) → 0 < m → m < suc (length l) → clash a (get_or (a ∷ l) m no_assignment) ≡ false
+  free : any (clash a) l ≡ false → (m : ℕ) → 0 < m → m < suc (length l)
+      → clash a (get_or (a ∷ l) m no_assignment) ≡ false
   free e zero h k = absurd (not-suc-le-zero h)
   free e (suc m) h k =
       not-true _ (all_get_d (λ b. not (clash a b)) l m no_assignment (none (clash a) l e) (le_of_suc-le-suc k))
@@ -84,7 +85,8 @@ module _ (a : Assignment) (l : List Assignment) where
       first (suc k) (suc m) h n o =
           p.no_smaller_first k m (le_of_suc-le-suc h) (le_of_suc-le-suc n) (le_of_suc-le-suc o)
 
-      second : (m : ℕ) → suc i < m → m < suc j → clash (get_or l i no_assignment) (get_or (a ∷ l) m no_assignment) ≡ false
+      second : (m : ℕ) → suc i < m → m < suc j
+          → clash (get_or l i no_assignment) (get_or (a ∷ l) m no_assignment) ≡ false
       second zero h k = absurd (not-suc-le-zero h)
       second (suc m) h k = p.no_smaller_second m (le_of_suc-le-suc h) (le_of_suc-le-suc k)
 

@@ -26,7 +26,8 @@ module _ (count : ℕ) (s : List ℕ) (h : HoldsRepeaters count s) where
         let nine : 9 * i + 9 - 9 * i ≡ 9 = omega arith in
         let below : i < repeater_count s = omega (arith, h.few, h.whole) in
         e ∙ ap (λ (n : ℕ). assignment_of (take n (drop (9 * i) s))) nine
-        ∙ sym (get_d_up_from (assignment_at s) 0 (repeater_count s) i no_assignment below ∙ ap (assignment_at s) (zero-add i))
+        ∙ sym (get_d_up_from (assignment_at s) 0 (repeater_count s) i no_assignment below
+        ∙ ap (assignment_at s) (zero-add i))
 
     -- what is tested of the repeater that was read
     pub as_read : (p : Assignment → Bool) (v : Bool) → p x ≡ v → p (get_or (assignments_in s) i no_assignment) ≡ v

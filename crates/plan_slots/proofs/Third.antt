@@ -78,7 +78,8 @@ module _ (r : Rule) (d b : ℕ) where
   third_row h k = record {
     row =
         rw h
-        (keep_same (third_follows r d b) (fits (range_at r 2) d (end_of d b) r.end) (λ c. rw h) (slots_in (range_at r 2))
+        (keep_same (third_follows r d b) (fits (range_at r 2) d (end_of d b) r.end) (λ c. rw h)
+        (slots_in (range_at r 2))
         ∙ k.row);
     small = k.small;
   }

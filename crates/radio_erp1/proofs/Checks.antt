@@ -62,7 +62,8 @@ module _ (s : List ℕ) where
   check-long h = simp (le-ltb (length s) min_length (omega arith), lt-ltb _ _ h)
 
   module _ (low : min_length ≤ length s) (high : length s ≤ max_length) where
-    pub check_hash : (last_byte s ≡ hash_of (body_of s) → ⊥) → number_of (wrong_hash (get_or s (length s - 2) 0)) ≡ check_of s
+    pub check_hash : (last_byte s ≡ hash_of (body_of s) → ⊥)
+        → number_of (wrong_hash (get_or s (length s - 2) 0)) ≡ check_of s
     unfolding check_of
     check_hash h = rw (← status_at s (omega arith)) (simp (le-ltb _ _ low, le-ltb _ _ high, ne_eqb _ _ h))
 

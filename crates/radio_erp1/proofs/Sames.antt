@@ -20,7 +20,8 @@ only_hash (x ∷ []) (y ∷ z ∷ b) e h = absurd (omega arith)
 only_hash (x ∷ w ∷ a) (y ∷ b) e h = absurd (omega arith)
 
 module _ (a b : List ℕ) (e : length a ≡ length b) (h : 2 ≤ length a) where
-  pub other_upper : (upper_of (get_or a (length a - 2) 0) ≡ upper_of (get_or b (length a - 2) 0) → ⊥) → false ≡ is_same a b
+  pub other_upper : (upper_of (get_or a (length a - 2) 0) ≡ upper_of (get_or b (length a - 2) 0) → ⊥)
+      → false ≡ is_same a b
   unfolding is_same
   other_upper n =
       let k : 2 ≤ length b = omega arith in

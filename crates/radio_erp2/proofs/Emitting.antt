@@ -70,7 +70,8 @@ module _ (t : Telegram) (v : Buildable t) (out : List ℕ) where
         ap (λ (x : List ℕ). ((overhead (sizes_for t) + t.len) ∷ (bytes_by_size t (sizes_for t) ++ x))
         ++ drop (1 + overhead (sizes_for t) + t.len) out)
         (by_form_seal (is_short_form t) refl)
-        ∙ ap (λ (m : ℕ). ((overhead (sizes_for t) + t.len) ∷ (bytes_by_size t (sizes_for t) ++ seal_of t)) ++ drop m out) n
+        ∙ ap (λ (m : ℕ). ((overhead (sizes_for t) + t.len) ∷ (bytes_by_size t (sizes_for t) ++ seal_of t))
+        ++ drop m out) n
 
     pub build_done : 1 + telegram_size t ≤ length out → (n : ℕ) → n ≡ 1 + telegram_size t
         → (last : List ℕ) → last ≡ row_written t (sizes_for t) out

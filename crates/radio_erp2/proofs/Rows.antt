@@ -112,5 +112,6 @@ module _ (t : Telegram) (z : Sizes) where
         (w ∙ ap (λ (x : List ℕ). (x ++ (c ∷ [])) ++ drop (end + 1) orig) f ∙ ap
         (λ (y : ℕ). (size ∷ (bytes_by_size t z ++ (y ∷ []))) ++ drop (end + 1) orig) (g ∙ ap crc_of behind)
         ∙ ap (λ (y : ℕ). (y ∷ (bytes_by_size t z ++ (crc_of (bytes_by_size t z) ∷ []))) ++ drop (end + 1) orig) e
-        ∙ ap (λ (y : ℕ). ((overhead z + t.len) ∷ (bytes_by_size t z ++ (crc_of (bytes_by_size t z) ∷ []))) ++ drop y orig)
+        ∙ ap (λ (y : ℕ). ((overhead z + t.len) ∷ (bytes_by_size t z ++ (crc_of (bytes_by_size t z) ∷ [])))
+        ++ drop y orig)
         m)

@@ -97,7 +97,8 @@ module _ (s : List ℕ) (v : Sound s) (b : Bytes s) where
       let low = leb-false (length_byte s) 6 h in
       rw (form_long s v h, h, field_one 1 s (omega (arith, v.long))) (lt-leb 4 (header_in s).control (v.allowed h))
 
-  holds_read : (x : Bool) → has_short_length s ≡ x → (is_unholdable (fields_of s) || is_against_header (fields_of s)) ≡ false
+  holds_read : (x : Bool) → has_short_length s ≡ x
+      → (is_unholdable (fields_of s) || is_against_header (fields_of s)) ≡ false
   holds_read true h = or-false (short-holds h) (short-agrees h)
   holds_read false h = or-false (long-holds h) (long-agrees h)
 

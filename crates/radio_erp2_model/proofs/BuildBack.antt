@@ -282,7 +282,8 @@ module _ (t : Telegram) (shape : Shaped t) (f : is_short_form t ≡ false) (v : 
   last_byte =
       let s : seal_of t ≡ crc_of (body_of t) ∷ [] = rw f in
       ap (λ (x : List ℕ). get_or (telegram_size t ∷ (body_of t ++ x)) (telegram_size t) 0) s
-      ∙ get_or_at (telegram_size t ∷ body_of t) (crc_of (body_of t)) [] 0 (telegram_size t) (omega (arith, body_length_lem))
+      ∙ get_or_at (telegram_size t ∷ body_of t) (crc_of (body_of t)) [] 0 (telegram_size t)
+      (omega (arith, body_length_lem))
 
   room : overhead (sizes_for t) ≤ telegram_size t
   unfolding telegram_size
@@ -293,7 +294,8 @@ module _ (t : Telegram) (shape : Shaped t) (f : is_short_form t ≡ false) (v : 
   long_checks =
       let open-address : is_reserved (header_in (erp2_bytes t)) ≡ false =
       ap is_reserved header_is ∙ lt-leb 4 t.header.control v.control in
-      let fit : ltb (telegram_size t) (overhead (long_sizes (header_in (erp2_bytes t)) (get_or (erp2_bytes t) 2 0 % 16)))
+      let fit : ltb (telegram_size t) (overhead
+      (long_sizes (header_in (erp2_bytes t)) (get_or (erp2_bytes t) 2 0 % 16)))
       ≡ false =
       ap (λ (y : Sizes). ltb (telegram_size t) (overhead y)) announced_sizes
       ∙ le-ltb (telegram_size t) (overhead (sizes_for t)) room in

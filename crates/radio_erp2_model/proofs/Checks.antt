@@ -32,7 +32,8 @@ module _ (s : List ℕ) where
         simp (ne_eqb (length_byte s) 0 some, eq-eqb (length s) (1 + length_byte s) long, le-leb (length_byte s) 6 h)
 
     module _ (h : 6 < length_byte s) where
-      pub check-crc : (get_or s (length_byte s) 0 ≡ crc_of (part 1 (length_byte s - 1) s) → ⊥) → number_of Crc ≡ check_of s
+      pub check-crc : (get_or s (length_byte s) 0 ≡ crc_of (part 1 (length_byte s - 1) s) → ⊥)
+          → number_of Crc ≡ check_of s
       unfolding check_of
       check-crc n =
           simp (

@@ -1,6 +1,7 @@
 // The fields of an ERP2 telegram as a value (document 02, A4; source document 004, 4.4 to 4.6). Reading and building are defined in specs/; that each
 // undoes the other is in specs/Claims.antt.
 #![tactic(auto)]
+
 use radio_erp1::Checked;
 
 // The longest data of any telegram: 255 bytes without a header, an Originator-ID of 24 bits and the CRC.

@@ -171,7 +171,8 @@ module _ (a b : List ℕ) (va : Sound a) (vb : Sound b) where
       rw (eq-eqb (length a) (length b) long, e, by_upper a b va vb front)
       (and-true (eqb (upper_of (status_of a)) (upper_of (status_of b))))
 
-  differ : equal (before_status a) (before_status b) ≡ false → is_same a b ≡ is_same_telegram (fields_of a) (fields_of b)
+  differ : equal (before_status a) (before_status b) ≡ false
+      → is_same a b ≡ is_same_telegram (fields_of a) (fields_of b)
   unfolding is_same
   differ e =
       rw (e, and-false (eqb (upper_of (status_of a)) (upper_of (status_of b))), and-false (eqb (length a) (length b)))

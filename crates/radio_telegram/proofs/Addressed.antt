@@ -64,7 +64,8 @@ module _ (s out : List ℕ) where
     unfolding decapsulate_of
     decapsulate_plain a = rw (valid, a)
 
-    pub encapsulate_put : (to : List ℕ) → is_addressed s ≡ false → put_of (encapsulated s to) out ≡ encapsulate_of s to out
+    pub encapsulate_put : (to : List ℕ) → is_addressed s ≡ false
+        → put_of (encapsulated s to) out ≡ encapsulate_of s to out
     unfolding encapsulate_of
     encapsulate_put to a = rw (valid, a)
 

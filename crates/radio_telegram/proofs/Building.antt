@@ -102,7 +102,8 @@ module _ (t : Telegram) (out : List ℕ) where
       go false true p q = let n : number_of why ≡ number_of TooLong = rw (p, q) at e in rw (p, q, n)
       go false false p q = let n : number_of why ≡ 0 = rw (p, q) at e in absurd (refused-number why n)
 
-  pub build_facts : (build_of t out).number ≡ 0 → (is_unbuildable t ≡ false) × ((put_of (telegram_bytes t) out).number ≡ 0)
+  pub build_facts : (build_of t out).number ≡ 0
+      → (is_unbuildable t ≡ false) × ((put_of (telegram_bytes t) out).number ≡ 0)
   unfolding build_of
   build_facts e = unrefused (is_unbuildable t) _ out (put_of (telegram_bytes t) out) (refused-number Argument) e
 

@@ -93,7 +93,8 @@ raised_length s h = simp (length-append, front_length s h) (omega arith)
 -- at most 21 bytes
 pub relay_fits : (setting : ℕ) (s : List ℕ) → length (relay_of setting s) ≤ max_length
 unfolding relay_of
-relay_fits setting s = go (ltb (length s) min_length) (ltb max_length (length s)) (repeats setting (level_of s)) refl refl
+relay_fits setting s = go (ltb (length s) min_length) (ltb max_length (length s))
+    (repeats setting (level_of s)) refl refl
   where
     go : (a b t : Bool) → ltb (length s) min_length ≡ a → ltb max_length (length s) ≡ b
         → length (cond (not (a || b) && t) (raised_of s) []) ≤ max_length

@@ -58,7 +58,8 @@ module _ (f : Format) where
         let sends : StepOutcome → List ℕ = λ o. sent_bytes (sent_for setting o.answer r) in
         record {
           row =
-              ap (λ (o : StepOutcome). row_text_in f (decimal_text t) (printed_row o.answer) bs (sends o) (source_of bs))
+              ap (λ (o : StepOutcome). row_text_in f (decimal_text t) (printed_row o.answer) bs (sends o)
+              (source_of bs))
               step
               ∙ ap (λ (x : Frame). row_text_in f (decimal_text t) (printed_row a) bs (sent_bytes x) (source_of bs))
               (same_sent setting a r);
@@ -66,7 +67,8 @@ module _ (f : Format) where
           good = good_after (log_of past) r g (said-small l e);
         }
 
-    no_lines : (past : List Reception) → written_from (running (at past)) [] ≡ totals_text_in f (totals_of (log_of past))
+    no_lines : (past : List Reception) → written_from (running (at past)) []
+        ≡ totals_text_in f (totals_of (log_of past))
     unfolding text_of state_after model_view
     no_lines past = refl
 

@@ -72,7 +72,8 @@ open_from_start input at e o = rw e at o
 pub one_line : (s : Phase Receiver) {out out' : List ℕ} {most r : ℕ} (input : List ℕ) {n : ℕ}
     → n ≡ 0 + index_of newline (slice 0 (length input) input)
     → n < length input → Printed out 0 (phase_text model_collector s (take (n - 0) input)) most out' r → r ≤ length out
-    → Fed (collect model_collector) s (take (n + 1) input) out (next_phase model_collector s (take (n - 0) input)) out' r
+    → Fed (collect model_collector) s (take (n + 1) input) out
+    (next_phase model_collector s (take (n - 0) input)) out' r
 one_line s {out} input {n} e h q fits =
     fed_next (collect model_collector) (bounded model_collector) input 0 n
     (fed_none (collect model_collector) (bounded model_collector) s out) (found input 0 e) h (omega arith) q fits

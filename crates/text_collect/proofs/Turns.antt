@@ -128,7 +128,8 @@ nothing_of s₀ s s' input at n here h short there f =
     (open_front j (take k rest) (open_before rest))
     in
     let split : take n input ≡ take at input ++ l = ap (λ (m : ℕ). take m input) is ∙ take-add at j input in
-    let led : feed row_times line_limit (at_line_start s₀) (take n input) ≡ feed row_times line_limit (at_line_start s) l =
+    let led : feed row_times line_limit (at_line_start s₀) (take n input)
+    ≡ feed row_times line_limit (at_line_start s) l =
     ap (feed row_times line_limit (at_line_start s₀)) split
     ∙ feed_append row_times line_limit (take at input) l (at_line_start s₀)
     ∙ ap (λ (q : Position (Phase Receiver)). feed row_times line_limit q l) here
@@ -220,7 +221,8 @@ module _ (p : Program (Phase Receiver)) (b : Bounded p line_limit) {Ready : List
           sized = i.sized;
           times =
               rows-line row_times times_bounded input at used i.times e i.inside
-              (omega (arith, i.places, i.same_moments)) (bad-times here (line_at input at) u) next (printed_none moments n 0);
+              (omega (arith, i.places, i.same_moments)) (bad-times here (line_at input at) u) next
+              (printed_none moments n 0);
           records =
               rows-line row_records records_bounded input at used i.records e i.inside
               (omega (arith, i.places, i.same_moments, i.sized)) (bad-records here (line_at input at) u) next
@@ -229,7 +231,8 @@ module _ (p : Program (Phase Receiver)) (b : Bounded p line_limit) {Ready : List
           same_closed = i.same_closed;
           closes =
               rows-line (line_closings asked) (closings_bounded asked) input at used i.closes e i.inside
-              (omega (arith, i.spare, i.same_closed)) (bad-closes asked here (line_at input at) u) next (printed_none closed (32 * k) 0);
+              (omega (arith, i.spare, i.same_closed)) (bad-closes asked here (line_at input at) u) next
+              (printed_none closed (32 * k) 0);
           ticks =
               rows-line line_ticks ticks_bounded input at used i.ticks e i.inside ticked refl next
               (tick most left i.few some);
@@ -269,7 +272,8 @@ module _ (p : Program (Phase Receiver)) (b : Bounded p line_limit) {Ready : List
               (omega (arith, d.short, free, i.same_moments)) (said-times here (line_at input at) o u s) next d;
           records =
               rows-line row_records records_bounded input at used i.records e i.inside
-              (omega (arith, d.short, free, i.same_moments, i.sized)) (said-records here (line_at input at) o u s) next f;
+              (omega (arith, d.short, free, i.same_moments, i.sized))
+              (said-records here (line_at input at) o u s) next f;
           spare = omega (arith, same_length g);
           same_closed = same_length g ∙ i.same_closed;
           closes =

@@ -82,7 +82,14 @@ module _ {text : List ℕ} (w : Thirteen text) where
   is_time_lem =
       let b : decimal_of front < 2 ^ 64 = let h = rw size at (decimal_below front are_digits) in omega arith in
       let z : get_or front 0 0 ≡ digit0 → ⊥ = λ e. w.some (sym (get_or-take 13 text 0 0 (lit< tt)) ∙ e) in
-      rw (leading_zero front, size, ne_eqb (get_or front 0 0) digit0 z, are_digits, lt-ltb (decimal_of front) (2 ^ 64) b)
+      rw (
+        leading_zero front,
+        size,
+        ne_eqb (get_or front 0 0) digit0 z,
+        are_digits,
+        lt-ltb (decimal_of front)
+            (2 ^ 64) b,
+      )
 
   pub timed_thirteen : Timed.At (decimal_of (take 13 text)) 13 ≡ timed_of text
   timed_thirteen =

@@ -104,7 +104,8 @@ module _ (text : List ℕ) where
 -- ---- a line that is known to be BAD
 
 -- a search through the whole of a text
-pub found_whole : (b : ℕ) (text : List ℕ) {n : ℕ} → n ≡ 0 + index_of b (slice 0 (length text) text) → n ≡ index_of b text
+pub found_whole : (b : ℕ) (text : List ℕ) {n : ℕ} → n ≡ 0 + index_of b (slice 0 (length text) text)
+    → n ≡ index_of b text
 unfolding slice
 found_whole b text e = e ∙ rw (take-length text, zero-add (index_of b text))
 

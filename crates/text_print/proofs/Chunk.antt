@@ -56,7 +56,8 @@ module _ (buffer : List ℕ) (used end : ℕ) (fits : end ≤ length buffer) (or
     pub kept_front : take kept buffer' ≡ kept_of
     kept_front =
         let h : 0 + length kept_of ≤ length buffer = omega (arith, kept-fits) in
-        rw (kept-count, carried, sets-eq kept_of buffer 0 h) (take-append_seam kept_of (drop (0 + length kept_of) buffer))
+        rw (kept-count, carried, sets-eq kept_of buffer 0 h)
+        (take-append_seam kept_of (drop (0 + length kept_of) buffer))
 
   -- where the run stands after the chunk, and what was printed for it
   pub chunk-taken : (s₀ s : Phase Receiver)
@@ -123,7 +124,8 @@ module _ (buffer : List ℕ) (used end : ℕ) (fits : end ≤ length buffer) (or
           room-left,
           q.next,
           q.short,
-          ap (λ (x : List ℕ). length (end_text (collect model_collector) (in_line (phase_of session) x))) (kept_front k),
+          ap (λ (x : List ℕ). length (end_text (collect model_collector) (in_line (phase_of session) x)))
+              (kept_front k),
         )) in
         let t = then printed e in
         record {

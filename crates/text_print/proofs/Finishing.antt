@@ -118,7 +118,8 @@ module _ (s : Phase Receiver) (l : List ℕ) (o : is_unended l ≡ true)
   taken : Drained (collect model_collector) line_limit s (l ++ (newline ∷ []))
       (next_phase model_collector s l) (phase_text model_collector s l)
   taken =
-      more (collect model_collector) line_limit (bounded model_collector) (none (collect model_collector) line_limit s) l o
+      more (collect model_collector) line_limit (bounded model_collector)
+      (none (collect model_collector) line_limit s) l o
 
   next_taken : phase_of p.session ≡ next_phase model_collector s l
   next_taken = ap (λ (a : Position (Phase Receiver)). a.state) (sym (rw whole at r.fed.state) ∙ taken.state)
@@ -130,7 +131,8 @@ module _ (s : Phase Receiver) (l : List ℕ) (o : is_unended l ≡ true)
       → PrintedIfFits out₁ p.written (longest_end (phase_of p.session))
       (phase_end model_collector (phase_of p.session)) out₂ n
       → Printed out 0
-      (phase_text model_collector s l ++ phase_end model_collector (next_phase model_collector s l)) longest_finish out₂ n
+      (phase_text model_collector s l ++ phase_end model_collector (next_phase model_collector s l)) longest_finish
+      out₂ n
   then_end room q =
       let same = same_length text-taken in
       let short = end_short (phase_of p.session) in

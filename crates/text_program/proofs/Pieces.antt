@@ -110,7 +110,8 @@ module _ {S : Type 0} (p : Program S) (n : ℕ) (b : Bounded p (suc n)) where
   unfolding for_lines text_of state_after
   lines_next s l ls = append_assoc (p.text s l) (text_of p (p.next s l) ls) (p.end (state_after p (p.next s l) ls))
 
-  whole : (input r : List ℕ) (s : S) → from_position (in_line s (take (suc n) r)) input ≡ for_lines s (lines_from r input)
+  whole : (input r : List ℕ) (s : S) → from_position (in_line s (take (suc n) r)) input
+      ≡ for_lines s (lines_from r input)
   unfolding lines_from
   whole [] r s = ends s r
   whole (c ∷ input) r s =
@@ -121,7 +122,8 @@ module _ {S : Type 0} (p : Program S) (n : ℕ) (b : Bounded p (suc n)) where
       k = take (suc n) r
 
       go : (t : Bool) → from_position (at_line_start (p.next s r)) input ≡ for_lines (p.next s r) (lines_from [] input)
-          → from_position (in_line s (take (suc n) (r ++ (c ∷ [])))) input ≡ for_lines s (lines_from (r ++ (c ∷ [])) input)
+          → from_position (in_line s (take (suc n) (r ++ (c ∷ [])))) input
+          ≡ for_lines s (lines_from (r ++ (c ∷ [])) input)
           → cond t (p.text s k) []
           ++ from_position (cond t (at_line_start (p.next s k)) (in_line s (take (suc n) (k ++ (c ∷ []))))) input
           ≡ for_lines s (cond t (r ∷ lines_from [] input) (lines_from (r ++ (c ∷ [])) input))

@@ -38,7 +38,8 @@ module _ {S : Type 0} (p : Program S) (b : Bounded p line_limit) where
       let first : k ≡ index_of newline d = omega arith in
       let next : n + 1 ≡ at + k + 1 = omega arith in
       let cut = up_to_newline input at k first (simp length-drop (omega arith)) in
-      let before : Drained p line_limit s₀ (take at input) s (feed_text p line_limit (at_line_start s₀) (take at input)) =
+      let before : Drained p line_limit s₀ (take at input) s
+      (feed_text p line_limit (at_line_start s₀) (take at input)) =
       record { state = f.state; text = refl } in
       let x = more p line_limit b before (take k d) (rw first (open_before d)) in
       let t = then f.output q in

@@ -38,7 +38,12 @@ one_digit (suc j) n h k = rw (lt-ltb n 10 k)
 -- what is stored in front of a part
 drop-set : (l : List ℕ) (j v : ℕ) → j < length l → drop j (set l j v) ≡ v ∷ drop (suc j) l
 drop-set l j v h =
-    rw (drop-cons (set l j v) j 0 (simp length-set h), get_or-set_same l j v 0 h, drop-set-lt (suc j) l j v (omega arith))
+    rw (
+      drop-cons (set l j v) j 0 (simp length-set h),
+      get_or-set_same l j v 0 h,
+      drop-set-lt (suc j) l j v
+          (omega arith),
+    )
 
 -- the digits of n in front of those that are stored from i on
 module _ (i n : ℕ) (stored : List ℕ) (within : i ≤ length stored) where

@@ -28,7 +28,8 @@ returns-then-used-eq0 c =
 pub returns-then-used-rows : goal.returns-then-used-rows
 returns-then-used-rows c =
     let a = c.args in
-    block_few a.rows a.block.now c.if-block-ne-BLOCK_LENGTH.false (omega (arith, c.sound-used.ensures, c.if-used-rows.true))
+    block_few a.rows a.block.now c.if-block-ne-BLOCK_LENGTH.false
+    (omega (arith, c.sound-used.ensures, c.if-used-rows.true))
 
 has : (c : Else-used-rows)
     → (is_sound c.args.block.now ≡ true) × (c.args.rows ≤ row_count c.args.block.now)
@@ -42,6 +43,8 @@ shorten-requires c = has c.before
 
 pub returns : goal.returns
 returns c =
+    let c_back3 = c.before.before.before in
     let a = c.args in
     ap (λ (b : List ℕ). record { number = 0; block = b }) c.shorten.ensures
-    ∙ block-done a.rows a.block.now c.if-block-ne-BLOCK_LENGTH.false (has c.before.before.before.before.before).0 (has c.before.before.before.before.before).1
+    ∙ block-done a.rows a.block.now c.if-block-ne-BLOCK_LENGTH.false (has c_back3.before.before).0
+    (has c_back3.before.before).1

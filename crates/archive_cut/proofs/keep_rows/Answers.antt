@@ -41,10 +41,15 @@ cleared c =
 pub returns : goal.returns
 unfolding kept_rows
 returns c =
-    c.seal.ensures ∙ seal_front _ (cleared c.before.before.before.before.before.before.before).begun c.requires.0
+    let c_back3 = c.before.before.before in
+    let c_back6 = c_back3.before.before.before in
+    c.seal.ensures ∙ seal_front _ (cleared c_back6.before).begun c.requires.0
 
 pub slice_bounds-clear-end : goal.slice_bounds-clear-end
 slice_bounds-clear-end c = within (counted c.before).begun body_length (omega (arith, c.requires.0))
 
 pub shape_of-block : goal.shape_of-block
-shape_of-block c = c.seal.auto.block ∙ begun_length (cleared c.before.before.before.before.before.before.before).begun
+shape_of-block c =
+    let c_back3 = c.before.before.before in
+    let c_back6 = c_back3.before.before.before in
+    c.seal.auto.block ∙ begun_length (cleared c_back6.before).begun

@@ -37,19 +37,26 @@ shorten-requires c =
 abbrev cut : (c : After-shorten) → Writing (at c.before.before.before + block_length)
 cut c =
     packed
-    (lend (skip (begin c.args.buffer.now) (at c.before.before.before) (omega arith) (omega (arith, inside c.before.before.before))) _ _
+    (lend (skip (begin c.args.buffer.now) (at c.before.before.before) (omega arith)
+    (omega (arith, inside c.before.before.before))) _ _
     (at c.before.before.before + block_length) c.shorten.ensures
     c.shorten.auto.block (omega arith) (inside c.before.before.before))
 
 abbrev whole : (c : After-clear) → Writing (length c.args.buffer.now)
 whole c =
-    packed (wipe (cut c.before.before.before.before).begun _ (length c.args.buffer.now)
-    c.clear.ensures c.clear.auto.out (inside c.before.before.before.before.before.before.before) (omega arith))
+    let c_back3 = c.before.before.before in
+    let c_back6 = c_back3.before.before.before in
+    packed (wipe (cut c_back3.before).begun _ (length c.args.buffer.now)
+    c.clear.ensures c.clear.auto.out (inside c_back6.before) (omega arith))
 
 pub returns : goal.returns
 returns c =
+    let c_back3 = c.before.before.before in
+    let c_back6 = c_back3.before.before.before in
+    let c_back9 = c_back6.before.before.before in
     done (whole c.before.before.before).begun refl
-    ∙ cut_written c.args.rows c.args.buffer.now c.requires.0 c.requires.1 (at c.before.before.before.before.before.before.before.before.before.before) refl (cut c.before.before.before.before.before.before.before).begun.long
+    ∙ cut_written c.args.rows c.args.buffer.now c.requires.0 c.requires.1 (at c_back9.before) refl
+    (cut c_back6.before).begun.long
 
 pub overflow_mul-at : goal.overflow_mul-at
 overflow_mul-at c = omega (arith, inside c.before.before)
@@ -61,10 +68,14 @@ pub slice_bounds-shorten-end : goal.slice_bounds-shorten-end
 slice_bounds-shorten-end c = inside c.before.before
 
 pub slice_bounds-clear-count : goal.slice_bounds-clear-count
-slice_bounds-clear-count c = inside c.before.before.before.before.before.before
+slice_bounds-clear-count c =
+    let c_back3 = c.before.before.before in
+    inside c_back3.before.before.before
 
 pub slice_bounds-clear-start : goal.slice_bounds-clear-start
-slice_bounds-clear-start c = inside c.before.before.before.before.before.before
+slice_bounds-clear-start c =
+    let c_back3 = c.before.before.before in
+    inside c_back3.before.before.before
 
 pub slice_bounds-clear-end : goal.slice_bounds-clear-end
 slice_bounds-clear-end c = within (cut c.before.before.before).begun _ (omega arith)

@@ -19,10 +19,14 @@ at : (c : Start) (s : Stage) → c.args.stage ≡ s
 at c s e = ap (λ (t : Stage). buffer.stage_after (stage_of t) c.args.k c.args.block.now) (sym e)
 
 pub returns-in-Filling : goal.returns-in-Filling
-returns-in-Filling c = c.next_stage.ensures ∙ at c.before.before.before.before _ c.in-Filling.is
+returns-in-Filling c =
+    let c_back3 = c.before.before.before in
+    c.next_stage.ensures ∙ at c_back3.before _ c.in-Filling.is
 
 pub returns-in-Short : goal.returns-in-Short
-returns-in-Short c = ap buffer.Wrong c.before-in-Short.ensures ∙ at c.before.before.before.before _ c.in-Short.is
+returns-in-Short c =
+    let c_back3 = c.before.before.before in
+    ap buffer.Wrong c.before-in-Short.ensures ∙ at c_back3.before _ c.in-Short.is
 
 pub returns-in-Ended : goal.returns-in-Ended
 returns-in-Ended c = at c.before.before.before _ c.in-Ended.is

@@ -33,9 +33,10 @@ returns-then-buffer-k c =
 
 pub returns : goal.returns
 returns c =
+    let c_back3 = c.before.before.before in
     let a = c.args in
     at_put a.buffer.now a.n (row_of a.bytes.now a.time a.loose)
-    (whole c.before.before.before.before.before.before) c.if-buffer-k.false c.put_row.result _ c.put_row.ensures
+    (whole c_back3.before.before.before) c.if-buffer-k.false c.put_row.result _ c.put_row.ensures
 
 pub overflow_mul-k : goal.overflow_mul-k
 overflow_mul-k c = omega arith

@@ -17,7 +17,8 @@ use Rattle.archive_file.proofs.are_written.Goals as goal
 
 -- states on the way
 abbrev After-is_written : Type 0
-After-is_written = lts.After-is_written tie.the-claims reads.Pre reads.Post goal.the-invariant-loop-i goal.the-decreases-loop-i
+After-is_written = lts.After-is_written tie.the-claims reads.Pre reads.Post goal.the-invariant-loop-i
+    goal.the-decreases-loop-i
 
 pub is_written-requires : goal.is_written-requires
 is_written-requires c =
@@ -44,7 +45,11 @@ decide c b e =
     (told c b e)
 
 pub loop-i-preserved : goal.loop-i-preserved
-loop-i-preserved c = record { bounded = omega arith; rest = sym (decide c.before.before true c.if-not-is_written.false) }
+loop-i-preserved c = record {
+  bounded = omega arith;
+  rest =
+      sym (decide c.before.before true c.if-not-is_written.false);
+}
 
 pub returns : goal.returns
 returns c =

@@ -48,17 +48,22 @@ last_told c b e = ap (λ (n : ℕ). not (eqb n 0) && not (eqb n 256)) (sym c.cel
 
 pub returns-then-not-is_blank : goal.returns-then-not-is_blank
 returns-then-not-is_blank c =
-    written_rest c.args.cell.now c.requires (short c.before.before.before.before)
+    let c_back3 = c.before.before.before in
+    written_rest c.args.cell.now c.requires (short c_back3.before)
     (blank_told c.before.before false c.if-not-is_blank.true)
 
 pub returns-then-last : goal.returns-then-last
 returns-then-last c =
-    written_last c.args.cell.now c.requires (short c.before.before.before.before.before.before)
+    let c_back3 = c.before.before.before in
+    written_last c.args.cell.now c.requires (short c_back3.before.before.before)
     (last_told c.before.before true c.if-last.true)
 
 pub returns : goal.returns
 returns c =
+    let c_back3 = c.before.before.before in
+    let c_back6 = c_back3.before.before.before in
     c.is_row.ensures
-    ∙ written_row c.args.cell.now c.requires (short c.before.before.before.before.before.before.before)
+    ∙ written_row c.args.cell.now c.requires (short c_back6.before)
     (λ i. omega (arith, c.shared_slice_known-1.given i))
-    (blank_told c.before.before.before.before.before true c.if-not-is_blank.false) (last_told c.before.before.before false c.if-last.false)
+    (blank_told c_back3.before.before true c.if-not-is_blank.false)
+    (last_told c.before.before.before false c.if-last.false)

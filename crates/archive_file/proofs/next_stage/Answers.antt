@@ -34,8 +34,12 @@ same c = sym c.number_of.ensures ∙ c.if-number_of-k.false
 
 pub returns-then-used-lt-CELLS_PER_BLOCK : goal.returns-then-used-lt-CELLS_PER_BLOCK
 returns-then-used-lt-CELLS_PER_BLOCK c =
-    stage-short c.args.block.now c.args.k (some c.before.before.before.before) (same c.before.before) (rw c.requires.1 at c.if-used-lt-CELLS_PER_BLOCK.true)
+    let c_back3 = c.before.before.before in
+    stage-short c.args.block.now c.args.k (some c_back3.before) (same c.before.before)
+    (rw c.requires.1 at c.if-used-lt-CELLS_PER_BLOCK.true)
 
 pub returns : goal.returns
 returns c =
-    stage_full c.args.block.now c.args.k (some c.before.before.before.before) (same c.before.before) (rw c.requires.1 at c.if-used-lt-CELLS_PER_BLOCK.false)
+    let c_back3 = c.before.before.before in
+    stage_full c.args.block.now c.args.k (some c_back3.before) (same c.before.before)
+    (rw c.requires.1 at c.if-used-lt-CELLS_PER_BLOCK.false)

@@ -32,6 +32,7 @@ scan_blocks-end-requires c =
 
 pub returns : goal.returns
 returns c =
+    let c_back3 = c.before.before.before in
     let a = c.args.buffer.now in
     let is =
     c.scan_blocks-end.ensures
@@ -39,5 +40,5 @@ returns c =
     c.rows_found.ensures
     ∙ ap (λ (f : buffer.Found). open_found f c.scan_blocks-end.result.rows)
     (ap (λ (s : buffer.Scan). buffer.stage_found s.stage) is ∙ scan-found a)
-    ∙ open_whole a (whole c.before.before.before.before) c.scan_blocks-end.result.rows
+    ∙ open_whole a (whole c_back3.before) c.scan_blocks-end.result.rows
     (λ none. ap (λ (s : buffer.Scan). s.rows) is ∙ scan-rows a none)

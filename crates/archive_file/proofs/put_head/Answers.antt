@@ -27,7 +27,8 @@ step1 c =
 
 abbrev step2 : After-clear → Writing 24
 step2 c =
-    packed (lend_sized (step1 c.before.before.before.before).begun _ (λ w. replicate w 0) 24
+    let c_back3 = c.before.before.before in
+    packed (lend_sized (step1 c_back3.before).begun _ (λ w. replicate w 0) 24
     c.clear.ensures c.clear.auto.out (omega arith) (omega arith))
 
 pub slice_bounds-clear-end : goal.slice_bounds-clear-end

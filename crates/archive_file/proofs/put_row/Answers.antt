@@ -52,7 +52,10 @@ write_row-requires c =
 
 pub returns : goal.returns
 returns c =
+    let c_back3 = c.before.before.before in
+    let c_back6 = c_back3.before.before.before in
     let a = c.args in
     ap stored c.write_row.ensures
     ∙ put-done a.block.now a.n (row_of a.bytes.now a.time a.loose) c.if-block-ne-BLOCK_LENGTH.false
-    c.if-n-ge-MAX_ROWS.false (next c.before.before.before.before.before.before.before) (told-valid _ _ c.check-checked.ensures c.in_default.is)
+    c.if-n-ge-MAX_ROWS.false (next c_back6.before)
+    (told-valid _ _ c.check-checked.ensures c.in_default.is)

@@ -53,9 +53,11 @@ shown c a = row_shown a (block_cell c.args.i c.args.block.now)
 
 pub returns-then-len-gt-CELL_CAPACITY : goal.returns-then-len-gt-CELL_CAPACITY
 returns-then-len-gt-CELL_CAPACITY c =
+    let c_back3 = c.before.before.before in
     c.no_row-then-len-gt-CELL_CAPACITY.ensures (block_cell c.args.i c.args.block.now)
-    ∙ ap (shown c.before.before.before.before)
-    (sym (cell_long (cell c.before.before.before.before) (omega (arith, c.cell_used-len.ensures, c.if-len-gt-CELL_CAPACITY.true))) ∙ in_block c.before.before.before.before)
+    ∙ ap (shown c_back3.before)
+    (sym (cell_long (cell c_back3.before) (omega
+    (arith, c.cell_used-len.ensures, c.if-len-gt-CELL_CAPACITY.true))) ∙ in_block c_back3.before)
 
 -- what is read of a cell
 read : (cell bytes : List ℕ) (time len : ℕ) (loose : Bool) → len ≡ cell_used cell
@@ -68,12 +70,16 @@ read cell bytes time len loose u h t o b =
 
 pub returns : goal.returns
 returns c =
+    let c_back3 = c.before.before.before in
+    let c_back6 = c_back3.before.before.before in
     let field =
     c.copy_field.ensures
-    ∙ resized_whole cell_capacity (cell_field (cell c.before.before.before.before.before.before.before.before))
-    (part_length 9 cell_capacity (cell c.before.before.before.before.before.before.before.before) (omega (arith, cell_is c.before.before.before.before.before.before.before.before))) in
-    read (cell c.before.before.before.before.before.before.before.before) _ _ _ _ c.cell_used-len.ensures c.if-len-gt-CELL_CAPACITY.false c.cell_time-time.ensures c.is_loose-loose.ensures field
-    ∙ ap₂ row_shown (in_block c.before.before.before.before.before.before.before.before) c.cell_at-cell.ensures
+    ∙ resized_whole cell_capacity (cell_field (cell c_back6.before.before))
+    (part_length 9 cell_capacity (cell c_back6.before.before)
+    (omega (arith, cell_is c_back6.before.before))) in
+    read (cell c_back6.before.before) _ _ _ _ c.cell_used-len.ensures
+    c.if-len-gt-CELL_CAPACITY.false c.cell_time-time.ensures c.is_loose-loose.ensures field
+    ∙ ap₂ row_shown (in_block c_back6.before.before) c.cell_at-cell.ensures
 
 pub cell_at-cell-requires : goal.cell_at-cell-requires
 cell_at-cell-requires c = (search rules, omega arith)

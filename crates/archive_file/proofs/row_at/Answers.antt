@@ -30,9 +30,10 @@ shown c a = row_shown a (cell_at c.args.i c.args.buffer.now)
 
 pub returns-then-not-is_whole : goal.returns-then-not-is_whole
 returns-then-not-is_whole c =
+    let c_back3 = c.before.before.before in
     let a = c.args in
     c.no_row.ensures (cell_at a.i a.buffer.now)
-    ∙ ap (shown c.before.before.before.before.before)
+    ∙ ap (shown c_back3.before.before)
     (row-size a.buffer.now a.i (sym c.is_whole.ensures ∙ c.if-not-is_whole.true))
 
 whole : (c : Else-not-is_whole) → is_whole (length c.args.buffer.now) ≡ true
@@ -40,9 +41,11 @@ whole c = sym c.is_whole.ensures ∙ c.if-not-is_whole.false
 
 pub returns-then-buffer-k : goal.returns-then-buffer-k
 returns-then-buffer-k c =
+    let c_back3 = c.before.before.before in
     let a = c.args in
     c.no_row-then-buffer-k.ensures (cell_at a.i a.buffer.now)
-    ∙ ap (shown c.before.before.before.before.before.before) (row_out a.buffer.now a.i (whole c.before.before.before) c.if-buffer-k.true)
+    ∙ ap (shown c_back3.before.before.before)
+    (row_out a.buffer.now a.i (whole c.before.before.before) c.if-buffer-k.true)
 
 pub read_row-requires : goal.read_row-requires
 read_row-requires c =
@@ -55,12 +58,15 @@ read_row-requires c =
 
 pub returns : goal.returns
 returns c =
+    let c_back3 = c.before.before.before in
+    let c_back6 = c_back3.before.before.before in
     let a = c.args in
     let k = a.i / cells_per_block in
     c.read_row.ensures
     ∙ ap (λ (l : List ℕ). row_shown (row_in_block l (a.i % cells_per_block)) (block_cell (a.i % cells_per_block) l))
     (part-ends (block_length * k) block_length a.buffer.now)
-    ∙ ap (shown c.before.before.before.before.before.before.before) (row_in a.buffer.now a.i (whole c.before.before.before.before) c.if-buffer-k.false)
+    ∙ ap (shown c_back6.before)
+    (row_in a.buffer.now a.i (whole c_back3.before) c.if-buffer-k.false)
 
 pub overflow_mul-k : goal.overflow_mul-k
 overflow_mul-k c = omega arith

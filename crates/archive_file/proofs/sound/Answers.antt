@@ -45,7 +45,8 @@ zeros-told : (c : After-is_blank-2) (b : Bool) → c.is_blank-2.result ≡ b
     c.args.block.now) ≡ b
 zeros-told c b e =
     let block = c.args.block.now in
-    ap (λ (n : ℕ). is_blank (part (header_length + cell_length * n) (body_length - (header_length + cell_length * n)) block))
+    ap (λ (n : ℕ). is_blank (part (header_length + cell_length * n)
+    (body_length - (header_length + cell_length * n)) block))
     (sym c.byte_at-used.ensures)
     ∙ sym c.is_blank-2.ensures ∙ e
 
@@ -83,13 +84,18 @@ returns-then-crc8_long-block c =
 -- ---- and one that passes all
 pub returns : goal.returns
 returns c =
+    let c_back3 = c.before.before.before in
+    let c_back6 = c_back3.before.before.before in
+    let c_back9 = c_back6.before.before.before in
     let block = c.args.block.now in
     let is =
     tested block (omega arith) (λ i. omega (arith, c.shared_slice_known-1.given i))
     (omega (arith, c.byte_at-used.ensures)) (omega (arith, c.byte_at-used.ensures))
-    (gap-told c.before.before.before.before.before.before.before.before.before.before.before true c.if-not-is_blank.false)
-    (cells_told c.before.before.before.before.before.before.before.before.before true c.if-not-are_written.false)
-    (zeros-told c.before.before.before.before.before.before true c.if-not-is_blank-2.false) (sym c.crc8_long.ensures ∙ c.if-crc8_long-block.false) in
+    (gap-told c_back9.before.before true
+    c.if-not-is_blank.false)
+    (cells_told c_back6.before.before.before true c.if-not-are_written.false)
+    (zeros-told c_back3.before.before.before true c.if-not-is_blank-2.false)
+    (sym c.crc8_long.ensures ∙ c.if-crc8_long-block.false) in
     c.byte_at-used.ensures ∙ ap (λ (t : Bool). cond t (row_count block) 0) (sym is)
 
 pub returns-then-block-ne-BLOCK_LENGTH : goal.returns-then-block-ne-BLOCK_LENGTH

@@ -39,8 +39,9 @@ headed c =
 
 abbrev celled : After-put_cell → Writing body_length
 celled c =
+    let c_back3 = c.before.before.before in
     let a = c.args in
-    let b = (headed c.before.before.before.before.before).begun in
+    let b = (headed c_back3.before.before).begun in
     packed
     (skip
     (lend b _ (cell_of a.time a.bytes.now c.last_of.result) (at a.n + cell_length)
@@ -64,7 +65,9 @@ put_is block n bytes time loose last e =
 
 pub returns : goal.returns
 returns c =
+    let c_back3 = c.before.before.before in
+    let c_back6 = c_back3.before.before.before in
     let a = c.args in
-    c.seal.ensures ∙ seal_front _ (celled c.before.before.before.before.before.before.before).begun c.requires.0
+    c.seal.ensures ∙ seal_front _ (celled c_back6.before).begun c.requires.0
     ∙ put_is a.block.now a.n a.bytes.now a.time a.loose
     c.last_of.result c.last_of.ensures

@@ -12,4 +12,5 @@ pub returns : goal.returns
 returns c =
     c.check.ensures
     ∙ ap check_of
-    (bytes-shown 0 c.args.given.now c.byte_at-len.result c.requires c.byte_at-len.ensures c.if-len-gt-CELL_CAPACITY.false)
+    (bytes-shown 0 c.args.given.now c.byte_at-len.result c.requires c.byte_at-len.ensures
+    c.if-len-gt-CELL_CAPACITY.false)

@@ -20,7 +20,8 @@ use Rattle.archive_fill.proofs.check_rows.Goals as goal
 
 -- states on the way
 abbrev After-check_record-checked : Type 0
-After-check_record-checked = lts.After-check_record tie.the-claims reads.Pre reads.Post goal.the-invariant-loop-i goal.the-decreases-loop-i
+After-check_record-checked = lts.After-check_record tie.the-claims reads.Pre reads.Post goal.the-invariant-loop-i
+    goal.the-decreases-loop-i
 
 pub check_record-checked-requires : goal.check_record-checked-requires
 check_record-checked-requires c =
@@ -58,7 +59,8 @@ loop-i-preserved c =
     let i = turn_of c.before.before in
     let count = rows-count c.args.times.now c.args.rows.now in
     let valid =
-    eq-eqb (check_of (get_or (given c.before.before) i no_row).bytes) 0 (told-valid _ _ (told c.before.before) c.in_default.is) in
+    eq-eqb (check_of (get_or (given c.before.before) i no_row).bytes) 0
+    (told-valid _ _ (told c.before.before) c.in_default.is) in
     record {
       bounded = omega arith;
       rest = sym (check_next (given c.before.before) i (omega (arith, count)) valid) ∙ c.loop-i.invariant.rest;

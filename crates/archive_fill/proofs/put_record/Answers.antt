@@ -28,13 +28,16 @@ short c =
 
 pub returns : goal.returns
 returns c =
+    let c_back3 = c.before.before.before in
+    let c_back6 = c_back3.before.before.before in
     let a = c.args in
-    let is = bytes-shown a.time a.given.now c.byte_at-len.result c.requires.1 c.byte_at-len.ensures (short c.before.before.before.before.before.before.before.before) in
+    let is = bytes-shown a.time a.given.now c.byte_at-len.result c.requires.1 c.byte_at-len.ensures
+    (short c_back6.before.before) in
     let few : length (part 2 (2 + c.byte_at-len.result - 2) a.given.now) ≤ max_length =
     rw is
     (omega (
       arith,
-      short c.before.before.before.before.before.before.before.before,
+      short c_back6.before.before,
       c.byte_at-len.ensures,
       resized-length (get_or a.given.now 1 0) (drop 2 a.given.now),
     )) in
@@ -43,4 +46,6 @@ returns c =
     (c.last_of-last.ensures ∙ ap (λ (flag : ℕ). row_last (not (eqb flag 0))) c.byte_at.ensures)
 
 pub slice_bounds-put_cell-end : goal.slice_bounds-put_cell-end
-slice_bounds-put_cell-end c = omega (arith, short c.before.before.before.before)
+slice_bounds-put_cell-end c =
+    let c_back3 = c.before.before.before in
+    omega (arith, short c_back3.before)

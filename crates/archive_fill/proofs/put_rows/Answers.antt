@@ -59,7 +59,9 @@ next c =
     next_told c.args.n (block c.before.before.before)
     (facts c.before.before).0 (sym c.is_next.ensures ∙ c.if-not-is_next.false)
 
-valid : (c : In_default) → (check_rows 0 (rows c.before.before.before.before.before)).number ≡ 0
+valid : (c : In_default) → (
+    let c_back3 = c.before.before.before in
+    (check_rows 0 (rows c_back3.before.before)).number ≡ 0)
 valid c =
     sym (ap (λ (v : Verdict). v.number) c.check_rows-checked.ensures)
     ∙ ap outcome_number c.in_default.is
@@ -73,48 +75,67 @@ returns-then-not-is_given c =
 
 pub returns-then-not-is_next : goal.returns-then-not-is_next
 returns-then-not-is_next c =
-    ap (beside (block c.before.before.before.before.before)) c.refused-then-not-is_next.ensures
-    ∙ put_other (block c.before.before.before.before.before) c.args.n (times c.before.before.before.before.before) (records c.before.before.before.before.before) (facts c.before.before.before.before)
-    (next_told c.args.n (block c.before.before.before.before.before) (facts c.before.before.before.before).0
+    let c_back3 = c.before.before.before in
+    ap (beside (block c_back3.before.before)) c.refused-then-not-is_next.ensures
+    ∙ put_other (block c_back3.before.before) c.args.n (times c_back3.before.before)
+    (records c_back3.before.before) (facts c_back3.before)
+    (next_told c.args.n (block c_back3.before.before) (facts c_back3.before).0
     (sym c.is_next.ensures ∙ c.if-not-is_next.true))
 
 pub returns-in-Refused : goal.returns-in-Refused
 returns-in-Refused c =
+    let c_back3 = c.before.before.before in
     let why = c.in-Refused.field-0 in
     let number =
     sym (ap outcome_number c.in-Refused.is) ∙ ap (λ (v : Verdict). v.number) c.check_rows-checked.ensures in
-    ap (beside (block c.before.before.before.before.before.before)) c.check_rows-checked.ensures
-    ∙ put-invalid (block c.before.before.before.before.before.before) c.args.n (times c.before.before.before.before.before.before) (records c.before.before.before.before.before.before)
-    (facts c.before.before.before.before.before) (next c.before.before.before) (λ z. refused-number why (number ∙ z))
+    ap (beside (block c_back3.before.before.before)) c.check_rows-checked.ensures
+    ∙ put-invalid (block c_back3.before.before.before) c.args.n
+    (times c_back3.before.before.before) (records c_back3.before.before.before)
+    (facts c_back3.before.before) (next c.before.before.before) (λ z. refused-number why (number ∙ z))
 
 pub returns-then-n-count : goal.returns-then-n-count
 returns-then-n-count c =
-    ap (beside (block c.before.before.before.before.before.before.before.before)) c.refused-then-n-count.ensures
-    ∙ put_many (block c.before.before.before.before.before.before.before.before) c.args.n (times c.before.before.before.before.before.before.before.before) (records c.before.before.before.before.before.before.before.before) (facts c.before.before.before.before.before.before.before)
-    (next c.before.before.before.before.before) (valid c.before.before.before) (omega (arith, c.if-n-count.true))
+    let c_back3 = c.before.before.before in
+    let c_back6 = c_back3.before.before.before in
+    ap (beside (block c_back6.before.before)) c.refused-then-n-count.ensures
+    ∙ put_many (block c_back6.before.before) c.args.n (times c_back6.before.before) (records c_back6.before.before)
+    (facts c_back6.before)
+    (next c_back3.before.before) (valid c.before.before.before) (omega (arith, c.if-n-count.true))
 
 pub returns-then-count-eq0 : goal.returns-then-count-eq0
 returns-then-count-eq0 c =
-    ap (beside (block c.before.before.before.before.before.before.before.before.before)) c.done.ensures
-    ∙ put_none (block c.before.before.before.before.before.before.before.before.before) c.args.n (times c.before.before.before.before.before.before.before.before.before) (records c.before.before.before.before.before.before.before.before.before)
-    (facts c.before.before.before.before.before.before.before.before) (next c.before.before.before.before.before.before) (valid c.before.before.before.before) c.if-count-eq0.true
+    let c_back3 = c.before.before.before in
+    let c_back6 = c_back3.before.before.before in
+    ap (beside (block c_back6.before.before.before)) c.done.ensures
+    ∙ put_none (block c_back6.before.before.before) c.args.n (times c_back6.before.before.before)
+    (records c_back6.before.before.before)
+    (facts c_back6.before.before)
+    (next c_back3.before.before.before) (valid c_back3.before) c.if-count-eq0.true
 
 pub write_rows-requires : goal.write_rows-requires
 write_rows-requires c =
-    let h = facts c.before.before.before.before.before.before.before.before in
+    let c_back3 = c.before.before.before in
+    let c_back6 = c_back3.before.before.before in
+    let h = facts c_back6.before.before in
     record {
       long = h.0;
       sized = h.2;
       some = omega (arith, c.if-count-eq0.false);
       few = omega (arith, c.if-n-count.false);
-      valid = check-valid 0 (rows c.before.before.before.before.before.before.before.before.before) (valid c.before.before.before.before);
+      valid = check-valid 0 (rows c_back6.before.before.before)
+          (valid c_back3.before);
     }
 
 pub returns : goal.returns
 returns c =
+    let c_back3 = c.before.before.before in
+    let c_back6 = c_back3.before.before.before in
+    let c_back9 = c_back6.before.before.before in
+    let c_back12 = c_back9.before.before.before in
     ap₂ (λ (b : List ℕ) (v : Verdict). beside b v) c.write_rows.ensures c.done-2.ensures
-    ∙ put-done (block c.before.before.before.before.before.before.before.before.before.before.before.before.before) c.args.n (times c.before.before.before.before.before.before.before.before.before.before.before.before.before) (records c.before.before.before.before.before.before.before.before.before.before.before.before.before)
-    (facts c.before.before.before.before.before.before.before.before.before.before.before.before) (next c.before.before.before.before.before.before.before.before.before.before) (valid c.before.before.before.before.before.before.before.before) (omega (arith, c.if-n-count.false))
+    ∙ put-done (block c_back12.before) c.args.n (times c_back12.before) (records c_back12.before)
+    (facts c_back9.before.before.before) (next c_back9.before) (valid c_back6.before.before)
+    (omega (arith, c.if-n-count.false))
 
 pub check_rows-checked-requires : goal.check_rows-checked-requires
 check_rows-checked-requires c = (facts c.before.before.before).2

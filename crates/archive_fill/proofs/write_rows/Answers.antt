@@ -51,31 +51,49 @@ numbered c =
     (a.n % cells_per_block + length a.times.now)
     (omega arith))
 
-abbrev headed : (c : After-clear) → Writing (at c.before.before.before.before.before.before.before.before.before)
+abbrev headed : (c : After-clear) → (
+    let c_back3 = c.before.before.before in
+    let c_back6 = c_back3.before.before.before in
+    Writing (at c_back6.before.before.before))
 headed c =
+    let c_back3 = c.before.before.before in
+    let c_back6 = c_back3.before.before.before in
     packed
     (skip
-    (lend_sized (numbered c.before.before.before.before).begun _
+    (lend_sized (numbered c_back3.before).begun _
     (λ w. replicate w 0) header_length c.clear.ensures c.clear.auto.out
     (omega arith) (omega arith))
-    (at c.before.before.before.before.before.before.before.before.before) (omega arith) (omega (arith, c.requires.few)))
+    (at c_back6.before.before.before) (omega arith) (omega (arith, c.requires.few)))
 
 abbrev celled : After-put_cells → Writing body_length
 celled c =
+    let c_back3 = c.before.before.before in
+    let c_back6 = c_back3.before.before.before in
+    let c_back9 = c_back6.before.before.before in
+    let c_back12 = c_back9.before.before.before in
     packed
-    (skip (lend (headed c.before.before.before.before).begun _ _ (end c.before.before.before.before.before.before.before.before.before.before.before.before.before) c.put_cells.ensures
+    (skip (lend (headed c_back3.before).begun _ _ (end c_back12.before) c.put_cells.ensures
     c.put_cells.auto.out (omega arith) (omega (arith, c.requires.few)))
     body_length (omega (arith, c.requires.few)) (omega arith))
 
 pub put_cells-requires : goal.put_cells-requires
 put_cells-requires c =
-    (lent (headed c.before.before.before.before).begun _ (end c.before.before.before.before.before.before.before.before.before.before.before.before.before) (omega arith) (omega (arith, c.requires.few)), c.requires.sized, c.requires.valid)
+    let c_back3 = c.before.before.before in
+    let c_back6 = c_back3.before.before.before in
+    let c_back9 = c_back6.before.before.before in
+    let c_back12 = c_back9.before.before.before in (
+      lent (headed c_back3.before).begun _ (end c_back12.before) (omega arith)
+          (omega (arith, c.requires.few)),
+      c.requires.sized,
+      c.requires.valid,
+    )
 
 put_is : (block : List ℕ) (n : ℕ) (times rows : List ℕ) → RowsReady block n times rows
     → (at end : ℕ) → at ≡ header_length + cell_length * (n % cells_per_block)
     → end ≡ header_length + cell_length * (n % cells_per_block + length times)
     → sealed
-    (rows_header (n / cells_per_block) (n % cells_per_block + length times) ++ part header_length (at - header_length) block
+    (rows_header (n / cells_per_block) (n % cells_per_block + length times)
+    ++ part header_length (at - header_length) block
     ++ flatten (map row_cell (rows_given times rows)) ++ part end (body_length - end) block)
     ≡ put_rows n (rows_given times rows) block
 unfolding together
@@ -83,14 +101,22 @@ put_is block n times rows ready at end a e =
     let count = rows-count times rows in
     let w : at - header_length ≡ cell_length * (n % cells_per_block) = omega arith in
     let some : 0 < length (rows_given times rows) = omega (arith, count, ready.some) in
-    let few : n % cells_per_block + length (rows_given times rows) ≤ cells_per_block = omega (arith, count, ready.few) in
+    let few : n % cells_per_block + length (rows_given times rows)
+    ≤ cells_per_block = omega (arith, count, ready.few) in
     sym (put_together n (rows_given times rows) block ready.long some few ready.valid ∙ (rw (count, w, e)))
 
 pub returns : goal.returns
 returns c =
+    let c_back3 = c.before.before.before in
+    let c_back6 = c_back3.before.before.before in
+    let c_back9 = c_back6.before.before.before in
+    let c_back12 = c_back9.before.before.before in
+    let c_back15 = c_back12.before.before.before in
+    let c_back18 = c_back15.before.before.before in
     let a = c.args in
-    c.seal.ensures ∙ seal_front _ (celled c.before.before.before.before.before.before.before).begun c.requires.long
-    ∙ put_is a.block.now a.n a.times.now a.rows.now c.requires (at c.before.before.before.before.before.before.before.before.before.before.before.before.before.before.before.before.before.before.before.before) (end c.before.before.before.before.before.before.before.before.before.before.before.before.before.before.before.before.before.before.before.before) refl refl
+    c.seal.ensures ∙ seal_front _ (celled c_back6.before).begun c.requires.long
+    ∙ put_is a.block.now a.n a.times.now a.rows.now c.requires (at c_back18.before.before)
+    (end c_back18.before.before) refl refl
 
 pub slice_bounds-clear-end : goal.slice_bounds-clear-end
 slice_bounds-clear-end c = within (numbered c.before.before.before).begun header_length (omega arith)
@@ -100,4 +126,7 @@ slice_bounds-put_cells-end c = within (headed c.before.before.before).begun _
     (omega (arith, c.requires.few))
 
 pub shape_of-block : goal.shape_of-block
-shape_of-block c = c.seal.auto.block ∙ begun_length (celled c.before.before.before.before.before.before.before).begun
+shape_of-block c =
+    let c_back3 = c.before.before.before in
+    let c_back6 = c_back3.before.before.before in
+    c.seal.auto.block ∙ begun_length (celled c_back6.before).begun

@@ -41,7 +41,8 @@ decreases_loop pending₀ used next piece identities out₀ positions₀ waits�
 abbrev start : tie.After-shared-slice-known2 invariant_loop decreases_loop → tie.Start invariant_loop decreases_loop
 start c = c.before.before.before
 
-abbrev slice_known2 : tie.After-loop invariant_loop decreases_loop → tie.After-slice-known2 invariant_loop decreases_loop
+abbrev slice_known2 : tie.After-loop invariant_loop decreases_loop
+    → tie.After-slice-known2 invariant_loop decreases_loop
 slice_known2 c = c.before.before.before
 
 abbrev turn : tie.After-sound invariant_loop decreases_loop → tie.At-loop invariant_loop decreases_loop
@@ -50,10 +51,12 @@ turn c = c.before.before.before
 abbrev sound_known : tie.After-positions invariant_loop decreases_loop → tie.After-sound invariant_loop decreases_loop
 sound_known c = c.before.before.before
 
-abbrev listed-block : tie.After-push-cells-arg invariant_loop decreases_loop → tie.After-list-block invariant_loop decreases_loop
+abbrev listed-block : tie.After-push-cells-arg invariant_loop decreases_loop
+    → tie.After-list-block invariant_loop decreases_loop
 listed-block c = c.before.before.before
 
-abbrev pushed-cells : tie.After-flush-arg invariant_loop decreases_loop → tie.After-push-cells invariant_loop decreases_loop
+abbrev pushed-cells : tie.After-flush-arg invariant_loop decreases_loop
+    → tie.After-push-cells invariant_loop decreases_loop
 pushed-cells c = c.before.before.before
 
 abbrev flushed : tie.After-out invariant_loop decreases_loop → tie.After-flush invariant_loop decreases_loop
@@ -71,7 +74,8 @@ turn_flushed c = turn-pushed-cells (flushed c).before.before
 abbrev sound_known_flushed : tie.After-out invariant_loop decreases_loop → tie.After-sound invariant_loop decreases_loop
 sound_known_flushed c = sound_known (pushed-cells (flushed c).before.before).before.before.before
 
-abbrev pushed-cells_flushed : tie.After-out invariant_loop decreases_loop → tie.After-push-cells invariant_loop decreases_loop
+abbrev pushed-cells_flushed : tie.After-out invariant_loop decreases_loop
+    → tie.After-push-cells invariant_loop decreases_loop
 pushed-cells_flushed c = pushed-cells (flushed c).before.before
 
 loop_holds : tie.Need-loop-init invariant_loop decreases_loop

@@ -41,13 +41,15 @@ turn c = c.before.before.before
 abbrev turning : tie.After-byte-at invariant_loop decreases_loop → tie.In-loop invariant_loop decreases_loop
 turning c = c.before.before.before
 
-abbrev pushed-cells : tie.After-flush-arg invariant_loop decreases_loop → tie.After-push-cells invariant_loop decreases_loop
+abbrev pushed-cells : tie.After-flush-arg invariant_loop decreases_loop
+    → tie.After-push-cells invariant_loop decreases_loop
 pushed-cells c = c.before.before.before
 
 abbrev flushed : tie.After-buffer2 invariant_loop decreases_loop → tie.After-flush invariant_loop decreases_loop
 flushed c = c.before.before.before
 
-abbrev pushed-cells_flushed : tie.After-buffer2 invariant_loop decreases_loop → tie.After-push-cells invariant_loop decreases_loop
+abbrev pushed-cells_flushed : tie.After-buffer2 invariant_loop decreases_loop
+    → tie.After-push-cells invariant_loop decreases_loop
 pushed-cells_flushed c = pushed-cells (flushed c).before.before
 
 -- ---- where a turn is

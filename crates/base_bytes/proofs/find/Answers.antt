@@ -32,7 +32,8 @@ none b at to s h k =
 pub returns-then-text-at : goal.returns-then-text-at
 returns-then-text-at c =
     let i = c.loop-at.invariant in
-    let e = here c.args.byte c.loop-at.at c.args.to c.args.text.now c.loop-at-test.true c.requires.1 c.if-text-at.true in
+    let e = here c.args.byte c.loop-at.at c.args.to c.args.text.now c.loop-at-test.true c.requires.1
+    c.if-text-at.true in
     (omega (arith, e, i.rest), i.high)
 
 pub loop-at-preserved : goal.loop-at-preserved

@@ -16,7 +16,8 @@ four_at : (bs : List ℕ) (f : ℕ) → f + 4 ≤ length bs
     ≡ value_of (take 4 (drop f bs))
 four_at bs f h =
     let n : 4 ≤ length (drop f bs) = rw (length-drop f bs) (omega arith) in
-    let zero-th : get_or (drop f bs) 0 0 ≡ get_or bs f 0 = get_or-drop f bs 0 0 ∙ ap (λ (k : ℕ). get_or bs k 0) (add-zero f) in
+    let zero-th : get_or (drop f bs) 0 0 ≡ get_or bs f 0 = get_or-drop f bs 0 0
+    ∙ ap (λ (k : ℕ). get_or bs k 0) (add-zero f) in
     let e = value_four (drop f bs) n in
     rw (zero-th, get_or-drop f bs 1 0, get_or-drop f bs 2 0, get_or-drop f bs 3 0) at e
 

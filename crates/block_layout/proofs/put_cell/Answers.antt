@@ -48,14 +48,16 @@ step1 c =
 
 abbrev step2 : After-put_bytes → Writing 30
 step2 c =
+    let c_back3 = c.before.before.before in
     packed
-    (lend_sized (step1 c.before.before.before.before).begun _ (λ w. resized w c.args.bytes.now) 30
+    (lend_sized (step1 c_back3.before).begun _ (λ w. resized w c.args.bytes.now) 30
     c.put_bytes.ensures c.put_bytes.auto.out (omega arith) (omega arith))
 
 abbrev step3 : After-put_number-2 → Writing 32
 step3 c =
+    let c_back3 = c.before.before.before in
     let a = c.args in
-    packed (lend_sized (step2 c.before.before.before.before).begun _ (λ w. be w a.last) 32
+    packed (lend_sized (step2 c_back3.before).begun _ (λ w. be w a.last) 32
     c.put_number-2.ensures c.put_number-2.auto.out (omega arith) (omega arith))
 
 cell_is : (time : ℕ) (bytes : List ℕ) (last : ℕ) → length bytes ≤ cell_capacity

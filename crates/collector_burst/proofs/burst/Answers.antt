@@ -3,4 +3,5 @@ use Rattle.collector_burst.proofs.Whole.{whole}
 use Rattle.collector_burst.proofs.burst.Goals as goal
 
 pub returns : goal.returns
-returns c = whole c.args.c c.args.setting c.args.receptions.now c.args.replies.now _ c.prepare-plan.ensures c.deliver-summary.ensures c.finish.ensures
+returns c = whole c.args.c c.args.setting c.args.receptions.now c.args.replies.now _ c.prepare-plan.ensures
+    c.deliver-summary.ensures c.finish.ensures

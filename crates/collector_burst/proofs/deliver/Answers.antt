@@ -8,7 +8,8 @@ loop-i-init c = turn.starts _ _ _ _ _ _ _
 
 pub loop-i-preserved : goal.loop-i-preserved
 loop-i-preserved c =
-    turn.turns _ _ _ _ _ _ _ c.requires.0 c.requires.1 c.loop-i.invariant c.loop-i-test.true c.loop-i-test.element_fits.fits
+    turn.turns _ _ _ _ _ _ _ c.requires.0 c.requires.1 c.loop-i.invariant c.loop-i-test.true
+    c.loop-i-test.element_fits.fits
     _ _ c.take_record-next.ensures
 
 pub returns : goal.returns

@@ -16,7 +16,8 @@ numbers c =
     let x = c.args.c in
     let counts = c.well_formed.0 in
     state-fits x (search rules) (search rules)
-    (small 64 x.copies _ (subst (λ (l : List ℕ). Is (Array u16 64) l counts.0.1.1.1.0) (sym (same x.copies)) counts.1.1.1.1.1.0))
+    (small 64 x.copies _ (subst (λ (l : List ℕ). Is (Array u16 64) l counts.0.1.1.1.0)
+    (sym (same x.copies)) counts.1.1.1.1.1.0))
 
 pub returns-then-not-fit : goal.returns-then-not-fit
 unfolding view_of
@@ -28,7 +29,8 @@ pub returns-then-places-receptions : goal.returns-then-places-receptions
 unfolding view_of
 returns-then-places-receptions c =
     no_room _ _ _ _ _ (c.is_acceptable-fit.ensures _)
-    (numbers (goal.at.returns-then-places-receptions c).After-is_acceptable-fit) c.if-not-fit.false c.if-places-receptions.true
+    (numbers (goal.at.returns-then-places-receptions c).After-is_acceptable-fit) c.if-not-fit.false
+    c.if-places-receptions.true
 
 pub returns-then-receptions-gt-MAX_BURST : goal.returns-then-receptions-gt-MAX_BURST
 unfolding view_of

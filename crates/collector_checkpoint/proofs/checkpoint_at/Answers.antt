@@ -37,7 +37,8 @@ passed : (c : Else-not-is_acceptable) → acceptable (state c.before.before.befo
 passed c = sym (tested c.before) ∙ c.if-not-is_acceptable.false
 
 pub returns-then-not-is_acceptable : goal.returns-then-not-is_acceptable
-returns-then-not-is_acceptable c = checkpoint_unacceptable _ (sym (tested c.before.before) ∙ c.if-not-is_acceptable.true) _
+returns-then-not-is_acceptable c = checkpoint_unacceptable _
+    (sym (tested c.before.before) ∙ c.if-not-is_acceptable.true) _
 
 pub returns-then-out-lt-IMAGE_LENGTH : goal.returns-then-out-lt-IMAGE_LENGTH
 returns-then-out-lt-IMAGE_LENGTH c = checkpoint_short _ (passed c.before.before) _ c.if-out-lt-IMAGE_LENGTH.true
@@ -47,5 +48,6 @@ put_image-requires c = (c.if-out-lt-IMAGE_LENGTH.false, writable_state _ _ (pass
 
 pub returns : goal.returns
 returns c =
+    let c_back3 = c.before.before.before in
     ap (checkpoint_result outcome.Done) c.put_image.ensures
-    ∙ checkpoint_written _ (passed c.before.before.before.before.before.before) _ c.if-out-lt-IMAGE_LENGTH.false
+    ∙ checkpoint_written _ (passed c_back3.before.before.before) _ c.if-out-lt-IMAGE_LENGTH.false

@@ -42,9 +42,11 @@ put_image-requires c = (omega arith, writable_state _ _ (passed c.before.before)
 
 pub returns : goal.returns
 returns c =
+    let c_back3 = c.before.before.before in
+    let c_back6 = c_back3.before.before.before in
     let image = c.args.image.now in
-    rw (passed c.before.before.before.before.before.before)
+    rw (passed c_back3.before.before.before)
     (c.equal.ensures
     ∙ ap (λ (ys : List ℕ). equal ys image)
     (c.put_image.ensures
-    ∙ append-nil (image_with c.args.setting (said c.before.before.before.before.before.before.before))))
+    ∙ append-nil (image_with c.args.setting (said c_back6.before))))

@@ -11,7 +11,8 @@ use Rattle.collector_model.specs.Image.{image_length}
 use Rattle.collector_checkpoint.proofs.is_readable.Goals as goal
 
 pub returns-then-image-ne-IMAGE_LENGTH : goal.returns-then-image-ne-IMAGE_LENGTH
-returns-then-image-ne-IMAGE_LENGTH c = rw (ne_eqb (length c.args.image.now) image_length c.if-image-ne-IMAGE_LENGTH.true)
+returns-then-image-ne-IMAGE_LENGTH c = rw (ne_eqb
+    (length c.args.image.now) image_length c.if-image-ne-IMAGE_LENGTH.true)
 
 pub returns : goal.returns
 returns c =

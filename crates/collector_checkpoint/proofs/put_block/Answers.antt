@@ -54,15 +54,21 @@ headed c =
 
 abbrev filled : After-put_cells → Writing body_length
 filled c =
-    packed (lend (headed c.before.before.before.before.before).begun _ _ body_length
+    let c_back3 = c.before.before.before in
+    packed (lend (headed c_back3.before.before).begun _ _ body_length
     c.put_cells.ensures c.put_cells.auto.out (omega arith) (omega arith))
 
 pub returns : goal.returns
 returns c =
+    let c_back3 = c.before.before.before in
+    let c_back6 = c_back3.before.before.before in
+    let c_back9 = c_back6.before.before.before in
+    let c_back12 = c_back9.before.before.before in
+    let c_back15 = c_back12.before.before.before in
     let a = c.args in
     let used = c.used_from-used.result in
     c.seal.ensures
     ∙ seal_written (header_of a.k used a.a a.b)
-    (map entry_cell (entries_from (table c.before.before.before.before.before.before.before.before.before.before.before.before.before.before.before.before) (cells_per_block * a.k) used))
-    (header-length a.k used a.a a.b) (filled c.before.before.before.before.before.before.before).begun c.requires.0
-    ∙ block_written (table c.before.before.before.before.before.before.before.before.before.before.before.before.before.before.before.before) a.k a.a a.b a.count used c.used_from-used.ensures
+    (map entry_cell (entries_from (table c_back15.before) (cells_per_block * a.k) used))
+    (header-length a.k used a.a a.b) (filled c_back6.before).begun c.requires.0
+    ∙ block_written (table c_back15.before) a.k a.a a.b a.count used c.used_from-used.ensures

@@ -43,14 +43,19 @@ short c = c.requires.3.short c.loop-i.i (omega arith)
 pub loop-i-preserved : goal.loop-i-preserved
 unfolding cells
 loop-i-preserved c =
+    let c_back3 = c.before.before.before in
+    let c_back6 = c_back3.before.before.before in
+    let c_back9 = c_back6.before.before.before in
     let a = c.args in
     let e = a.first + c.loop-i.i in
     let time = get_or a.times.now e 0 in
     let len = get_or a.lens.now e 0 in
     let count = get_or a.copies.now e 0 in
     let shown = part (max_length * e) (max_length * e + len - max_length * e) a.bytes.now in
-    let is = bytes-shown a.bytes.now e len (short c.before.before.before.before.before.before.before.before.before.before) (omega arith) in
-    let l : length shown ≤ max_length = rw (is, resized-length) (short c.before.before.before.before.before.before.before.before.before.before) in
+    let is = bytes-shown a.bytes.now e len
+    (short c_back9.before) (omega arith) in
+    let l : length shown ≤ max_length = rw (is, resized-length)
+    (short c_back9.before) in
     let w =
     c.put_cell.ensures ∙ put-fits time shown count _ l (lent c.loop-i.invariant.begun cell_length _ refl (omega arith))
     ∙ ap (λ (b : List ℕ). cell_of time b count) is
@@ -112,16 +117,24 @@ pub bounds-times-e : goal.bounds-times-e
 bounds-times-e c = omega arith
 
 pub overflow_add-at : goal.overflow_add-at
-overflow_add-at c = omega (arith, short c.before.before.before.before)
+overflow_add-at c =
+    let c_back3 = c.before.before.before in
+    omega (arith, short c_back3.before)
 
 pub slice_bounds-put_cell-count-in-loop-i : goal.slice_bounds-put_cell-count-in-loop-i
-slice_bounds-put_cell-count-in-loop-i c = omega (arith, short c.before.before.before.before)
+slice_bounds-put_cell-count-in-loop-i c =
+    let c_back3 = c.before.before.before in
+    omega (arith, short c_back3.before)
 
 pub slice_bounds-put_cell-start-in-loop-i : goal.slice_bounds-put_cell-start-in-loop-i
-slice_bounds-put_cell-start-in-loop-i c = omega (arith, short c.before.before.before.before)
+slice_bounds-put_cell-start-in-loop-i c =
+    let c_back3 = c.before.before.before in
+    omega (arith, short c_back3.before)
 
 pub slice_bounds-put_cell-end-in-loop-i : goal.slice_bounds-put_cell-end-in-loop-i
-slice_bounds-put_cell-end-in-loop-i c = omega (arith, short c.before.before.before.before)
+slice_bounds-put_cell-end-in-loop-i c =
+    let c_back3 = c.before.before.before in
+    omega (arith, short c_back3.before)
 
 pub offset_bounds-copies-e : goal.offset_bounds-copies-e
 offset_bounds-copies-e c = omega arith

@@ -25,7 +25,8 @@ abbrev After-put_number-2 : Type 0
 After-put_number-2 = lts.After-put_number2 tie.the-claims reads.Pre reads.Post
 
 pub returns-then-out-ne-HEADER_LENGTH : goal.returns-then-out-ne-HEADER_LENGTH
-returns-then-out-ne-HEADER_LENGTH c = sym (overwritten-not header_length _ c.args.out.now c.if-out-ne-HEADER_LENGTH.true)
+returns-then-out-ne-HEADER_LENGTH c = sym
+    (overwritten-not header_length _ c.args.out.now c.if-out-ne-HEADER_LENGTH.true)
 
 -- what is written, after each step
 abbrev step1 : Else-out-ne-HEADER_LENGTH → Writing 2
@@ -40,14 +41,16 @@ step2 c =
 
 abbrev step3 : After-put_number → Writing 16
 step3 c =
+    let c_back3 = c.before.before.before in
     let a = c.args in
-    packed (lend_sized (step2 c.before.before.before.before).begun _ (λ w. be w a.a) 16
+    packed (lend_sized (step2 c_back3.before).begun _ (λ w. be w a.a) 16
     c.put_number.ensures c.put_number.auto.out (omega arith) (omega arith))
 
 abbrev step4 : After-put_number-2 → Writing 24
 step4 c =
+    let c_back3 = c.before.before.before in
     let a = c.args in
-    packed (lend_sized (step3 c.before.before.before.before).begun _ (λ w. be w a.b) 24
+    packed (lend_sized (step3 c_back3.before).begun _ (λ w. be w a.b) 24
     c.put_number-2.ensures c.put_number-2.auto.out (omega arith) (omega arith))
 
 pub returns : goal.returns

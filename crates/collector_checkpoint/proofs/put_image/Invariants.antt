@@ -26,7 +26,8 @@ pub record Putting (out₀ firsts seconds : List ℕ) (l : List Entry) (out : Li
 
 abbrev pub invariant-loop-k : goal.invariant-loop-k
 invariant-loop-k l =
-    Putting l.initial.out l.firsts l.seconds (entries_at (columns l.times l.lens l.bytes l.copies) l.summary.count) l.out l.k
+    Putting l.initial.out l.firsts l.seconds
+    (entries_at (columns l.times l.lens l.bytes l.copies) l.summary.count) l.out l.k
 
 abbrev pub decreases-loop-k : goal.decreases-loop-k
 decreases-loop-k l = 5 - l.k

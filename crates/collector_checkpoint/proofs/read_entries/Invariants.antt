@@ -6,7 +6,8 @@ use Rattle.collector_checkpoint.proofs.read_entries.Given as goal
 
 abbrev pub invariant-loop-i : goal.invariant-loop-i
 invariant-loop-i l =
-    Reading l.image l.count (columns l.initial.times l.initial.lens l.initial.bytes l.initial.copies) l.i (columns l.times l.lens l.bytes l.copies)
+    Reading l.image l.count (columns l.initial.times l.initial.lens l.initial.bytes l.initial.copies) l.i
+    (columns l.times l.lens l.bytes l.copies)
 
 abbrev pub decreases-loop-i : goal.decreases-loop-i
 decreases-loop-i l = l.count - l.i

@@ -56,8 +56,10 @@ returns-then-not-is_acceptable c = stayed _ _ _ c.refused.ensures (restore_unacc
 
 pub returns-then-not-is_readable : goal.returns-then-not-is_readable
 returns-then-not-is_readable c =
+    let c_back3 = c.before.before.before in
     stayed _ _ _ c.refused-then-not-is_readable.ensures
-    (restore_unreadable _ _ (passed c.before.before.before.before) (sym c.is_readable.ensures ∙ c.if-not-is_readable.true))
+    (restore_unreadable _ _ (passed c_back3.before)
+    (sym c.is_readable.ensures ∙ c.if-not-is_readable.true))
 
 read : (c : Else-not-is_readable) →
     let image = image_of c.before.before.before in
@@ -66,30 +68,44 @@ read c =
     readable (image_of c.before.before.before)
     (sym c.is_readable.ensures ∙ c.if-not-is_readable.false)
 
-compared : (c : After-is_image_of) →
-    let image = image_of c.before.before.before.before.before.before.before.before.before.before.before in
-    c.is_image_of.result ≡ is_image_of (setting_in image) (parse image) image
+compared : (c : After-is_image_of) → (
+    let c_back3 = c.before.before.before in
+    let c_back6 = c_back3.before.before.before in
+    let c_back9 = c_back6.before.before.before in
+    let image = image_of c_back9.before.before in
+    c.is_image_of.result ≡ is_image_of (setting_in image) (parse image) image)
 unfolding view_of
 compared c =
-    let image = image_of c.before.before.before.before.before.before.before.before.before.before.before in
+    let c_back3 = c.before.before.before in
+    let c_back6 = c_back3.before.before.before in
+    let c_back9 = c_back6.before.before.before in
+    let image = image_of c_back9.before.before in
     c.is_image_of.ensures
     ∙ ap₂ (λ (n : ℕ) (v : View). is_image_of n v image) c.second_in-setting.ensures c.parse-next.ensures.state
 
 pub returns-then-not-is_image_of : goal.returns-then-not-is_image_of
 returns-then-not-is_image_of c =
+    let c_back3 = c.before.before.before in
+    let c_back6 = c_back3.before.before.before in
+    let c_back9 = c_back6.before.before.before in
+    let c_back12 = c_back9.before.before.before in
     stayed _ _ _ c.refused-then-not-is_image_of.ensures
-    (restore_other _ _ (passed c.before.before.before.before.before.before.before.before.before.before.before.before.before) (read c.before.before.before.before.before.before.before.before.before.before.before).0 (read c.before.before.before.before.before.before.before.before.before.before.before).2
+    (restore_other _ _ (passed c_back12.before) (read c_back9.before.before).0 (read c_back9.before.before).2
     (sym (compared c.before.before.before) ∙ c.if-not-is_image_of.true))
 
 pub returns : goal.returns
 returns c =
+    let c_back3 = c.before.before.before in
+    let c_back6 = c_back3.before.before.before in
+    let c_back9 = c_back6.before.before.before in
+    let c_back12 = c_back9.before.before.before in
     record {
       result =
           ap restored_with c.parse-next.ensures.state
-          ∙ restore_done _ _ (passed c.before.before.before.before.before.before.before.before.before.before.before.before) (read c.before.before.before.before.before.before.before.before.before.before).0 (read c.before.before.before.before.before.before.before.before.before.before).2
+          ∙ restore_done _ _ (passed c_back9.before.before.before) (read c_back9.before).0 (read c_back9.before).2
           (sym (compared c.before.before) ∙ c.if-not-is_image_of.false);
       elements = λ _.
-          let image = image_of c.before.before.before.before.before.before.before.before.before.before.before.before.before in
+          let image = image_of c_back12.before in
           let w =
           both (acceptable (parse image)) (equal (image_with (setting_in image) (parse image)) image)
           (sym (compared c.before.before) ∙ c.if-not-is_image_of.false) in

@@ -36,22 +36,37 @@ heard s = record { bytes = s.args.received.now; time = s.args.time }
 
 -- what was answered of the state and the reception
 said : (c : After-will_take)
-    →
+    → (
+    let c_back3 = c.before.before.before in
     c.will_take.result
-    ≡ is_taken (acceptable (view c.before.before.before.before)) (view c.before.before.before.before).totals.received (view c.before.before.before.before).latest (heard c.before.before.before.before).bytes (heard c.before.before.before.before).time
+    ≡ is_taken (acceptable (view c_back3.before)) (view c_back3.before).totals.received (view c_back3.before).latest
+    (heard c_back3.before).bytes (heard c_back3.before).time)
 said c = rw c.requires.0.said at c.will_take.ensures
 
 pub returns-then-not-will_take : goal.returns-then-not-will_take
 returns-then-not-will_take c =
+    let c_back3 = c.before.before.before in
     let e = sym (said c.before.before) ∙ c.if-not-will_take.true in
-    rw (← none_closed (view c.before.before.before.before.before.before) (heard c.before.before.before.before.before.before) e) (record { bytes = refl; next = omega arith; short = omega arith })
+    rw (← none_closed (view c_back3.before.before.before) (heard c_back3.before.before.before) e)
+    (record { bytes = refl; next = omega arith; short = omega arith })
 
 pub put_past-requires : goal.put_past-requires
 put_past-requires c =
-    let ok : acceptable (view c.before.before.before.before.before.before.before.before) ≡ true =
-    (both (acceptable (view c.before.before.before.before.before.before.before.before)) _ (sym (said c.before.before.before.before) ∙ c.if-not-will_take.false)).0 in
-    (writable_state (held c.before.before.before.before.before.before.before.before) c.args.summary ok, search rules, c.requires.1)
+    let c_back3 = c.before.before.before in
+    let c_back6 = c_back3.before.before.before in
+    let ok : acceptable (view c_back6.before.before) ≡ true =
+    (both (acceptable (view c_back6.before.before)) _
+    (sym (said c_back3.before) ∙ c.if-not-will_take.false)).0 in (
+      writable_state (held c_back6.before.before) c.args.summary ok,
+      search
+          rules,
+      c.requires.1,
+    )
 
 pub returns : goal.returns
 returns c =
-    rw (← some_closed (view c.before.before.before.before.before.before.before.before.before.before.before) (heard c.before.before.before.before.before.before.before.before.before.before.before) (sym (said c.before.before.before.before.before.before.before) ∙ c.if-not-will_take.false)) c.put_past.ensures
+    let c_back3 = c.before.before.before in
+    let c_back6 = c_back3.before.before.before in
+    let c_back9 = c_back6.before.before.before in
+    rw (← some_closed (view c_back9.before.before) (heard c_back9.before.before)
+    (sym (said c_back6.before) ∙ c.if-not-will_take.false)) c.put_past.ensures

@@ -66,14 +66,23 @@ inside c = omega (arith, short c, few c, c.requires.1)
 
 pub put_entry-k-requires : goal.put_entry-k-requires
 put_entry-k-requires c =
-    let p = c.requires in
-    (rw (shows c.before.before.before.before.before.before.before, resized-length) (short c.before.before.before.before.before.before.before), omega (arith, few c.before.before.before.before.before.before.before, same c.before.before.before.before.before.before.before, c.loop-i.invariant.put.short, p.2))
+    let c_back3 = c.before.before.before in
+    let c_back6 = c_back3.before.before.before in
+    let p = c.requires in (
+      rw (shows c_back6.before, resized-length) (short c_back6.before),
+      omega
+          (arith, few c_back6.before, same c_back6.before, c.loop-i.invariant.put.short, p.2),
+    )
 
 pub loop-i-preserved : goal.loop-i-preserved
 loop-i-preserved c =
+    let c_back3 = c.before.before.before in
+    let c_back6 = c_back3.before.before.before in
+    let c_back9 = c_back6.before.before.before in
     let l = c.loop-i in
     let a = c.args in
-    let w = rw (shows c.before.before.before.before.before.before.before.before.before.before) at c.put_entry-k.ensures in
+    let w = rw (shows c_back9.before) at
+    c.put_entry-k.ensures in
     record {
       bounded = omega arith;
       put = rw (one_past (columns a.times.now a.lens.now a.bytes.now a.copies.now) a.time l.i)
@@ -102,22 +111,34 @@ pub bounds-times-i : goal.bounds-times-i
 bounds-times-i c = omega (arith, few c.before.before.before)
 
 pub overflow_add-at : goal.overflow_add-at
-overflow_add-at c = omega (arith, few c.before.before.before.before, short c.before.before.before.before)
+overflow_add-at c =
+    let c_back3 = c.before.before.before in
+    omega (arith, few c_back3.before, short c_back3.before)
 
 pub slice_bounds-put_entry-count : goal.slice_bounds-put_entry-count
-slice_bounds-put_entry-count c = omega (arith, short c.before.before.before.before)
+slice_bounds-put_entry-count c =
+    let c_back3 = c.before.before.before in
+    omega (arith, short c_back3.before)
 
 pub slice_bounds-put_entry-start : goal.slice_bounds-put_entry-start
-slice_bounds-put_entry-start c = omega (arith, short c.before.before.before.before)
+slice_bounds-put_entry-start c =
+    let c_back3 = c.before.before.before in
+    omega (arith, short c_back3.before)
 
 pub slice_bounds-put_entry-end : goal.slice_bounds-put_entry-end
-slice_bounds-put_entry-end c = inside c.before.before.before.before
+slice_bounds-put_entry-end c =
+    let c_back3 = c.before.before.before in
+    inside c_back3.before
 
 pub offset_bounds-copies-i : goal.offset_bounds-copies-i
-offset_bounds-copies-i c = omega (arith, few c.before.before.before.before.before)
+offset_bounds-copies-i c =
+    let c_back3 = c.before.before.before in
+    omega (arith, few c_back3.before.before)
 
 pub bounds-copies-i : goal.bounds-copies-i
-bounds-copies-i c = omega (arith, few c.before.before.before.before.before.before)
+bounds-copies-i c =
+    let c_back3 = c.before.before.before in
+    omega (arith, few c_back3.before.before.before)
 
 pub overflow_step-i : goal.overflow_step-i
 overflow_step-i c = omega arith

@@ -34,7 +34,11 @@ fit c = c.if-not-fit.false
 
 pub returns-then-received-eq18446744073709551615 : goal.returns-then-received-eq18446744073709551615
 returns-then-received-eq18446744073709551615 c =
-    rw (fit c.before.before, le-leb max_count c.args.received (omega (arith, c.if-received-eq18446744073709551615.true)))
+    rw (
+      fit c.before.before,
+      le-leb max_count c.args.received
+          (omega (arith, c.if-received-eq18446744073709551615.true)),
+    )
 
 -- fewer were received than can be counted
 small : (s : Start) → s.args.received < 2 ^ 64
@@ -54,12 +58,26 @@ timely c = le-ltb _ _ c.if-time-latest.false
 
 pub returns-in-Valid : goal.returns-in-Valid
 returns-in-Valid c =
+    let c_back3 = c.before.before.before in
     let v = told-valid c.args.bytes.now c.check-checked.result c.check-checked.ensures c.in-Valid.is in
-    rw (fit c.before.before.before.before.before, not_full c.before.before.before.before, timely c.before.before.before, v)
+    rw (
+      fit c_back3.before.before,
+      not_full c_back3.before,
+      timely
+          c.before.before.before,
+      v,
+    )
 
 pub returns-in-Refused : goal.returns-in-Refused
 returns-in-Refused c =
+    let c_back3 = c.before.before.before in
     let why = c.in-Refused.field-0 in
     let b = c.args.bytes.now in
     let v = not_valid b why (told-refused b c.check-checked.result c.check-checked.ensures why c.in-Refused.is) in
-    rw (fit c.before.before.before.before.before, not_full c.before.before.before.before, timely c.before.before.before, v)
+    rw (
+      fit c_back3.before.before,
+      not_full c_back3.before,
+      timely
+          c.before.before.before,
+      v,
+    )

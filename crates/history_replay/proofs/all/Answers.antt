@@ -17,7 +17,8 @@ abbrev In-loop-i : Type 0
 In-loop-i = lts.In-loop tie.the-claims reads.Pre reads.Post goal.the-invariant-loop-i goal.the-decreases-loop-i
 
 abbrev After-size_in-size : Type 0
-After-size_in-size = lts.After-size_in tie.the-claims reads.Pre reads.Post goal.the-invariant-loop-i goal.the-decreases-loop-i
+After-size_in-size = lts.After-size_in tie.the-claims reads.Pre reads.Post goal.the-invariant-loop-i
+    goal.the-decreases-loop-i
 
 -- in a turn there is a whole record
 record_in : (c : In-loop-i)
@@ -37,18 +38,26 @@ room_now : (c : After-size_in-size)
 room_now c = within c.loop-i.invariant.made.begun _ (room c)
 
 pub call-requires : goal.call-requires
-call-requires c = (
-  record_length _ _ (record_in c.before.before.before.before.before.before.before.before.before.before),
-  lent c.loop-i.invariant.made.begun c.size_in-size.result _ refl (room c.before.before.before.before.before.before.before.before) ∙ c.size_in-size.ensures,
-)
+call-requires c =
+    let c_back3 = c.before.before.before in
+    let c_back6 = c_back3.before.before.before in
+    let c_back9 = c_back6.before.before.before in (
+      record_length _ _ (record_in c_back9.before),
+      lent c.loop-i.invariant.made.begun c.size_in-size.result _ refl
+          (room c_back6.before.before) ∙ c.size_in-size.ensures,
+    )
 
 pub loop-i-preserved : goal.loop-i-preserved
 loop-i-preserved c =
+    let c_back3 = c.before.before.before in
+    let c_back6 = c_back3.before.before.before in
+    let c_back9 = c_back6.before.before.before in
     let a = c.args in
     let next =
     turn a.lent.now a.calls.now c.loop-i.i (omega arith)
     c.loop-i.invariant.made _ _ c.call.ensures
-    c.size_in-size.result c.call.auto.out (room c.before.before.before.before.before.before.before.before.before.before.before)
+    c.size_in-size.result c.call.auto.out
+    (room c_back9.before.before)
     in
     record { bounded = omega arith; end = omega arith; made = next }
 
@@ -83,37 +92,88 @@ pub size_in-size-requires : goal.size_in-size-requires
 size_in-size-requires c = record_length _ _ (record_in c.before.before)
 
 pub overflow_mul-i-in-loop-i-2 : goal.overflow_mul-i-in-loop-i-2
-overflow_mul-i-in-loop-i-2 c = omega (arith, record_in c.before.before.before.before.before.before.before.before)
+overflow_mul-i-in-loop-i-2 c =
+    let c_back3 = c.before.before.before in
+    let c_back6 = c_back3.before.before.before in
+    omega (arith, record_in c_back6.before.before)
 
 pub overflow_mul-i-in-loop-i-3 : goal.overflow_mul-i-in-loop-i-3
-overflow_mul-i-in-loop-i-3 c = omega (arith, record_in c.before.before.before.before.before.before.before.before)
+overflow_mul-i-in-loop-i-3 c =
+    let c_back3 = c.before.before.before in
+    let c_back6 = c_back3.before.before.before in
+    omega (arith, record_in c_back6.before.before)
 
 pub overflow_add-i-in-loop-i : goal.overflow_add-i-in-loop-i
-overflow_add-i-in-loop-i c = omega (arith, record_in c.before.before.before.before.before.before.before.before)
+overflow_add-i-in-loop-i c =
+    let c_back3 = c.before.before.before in
+    let c_back6 = c_back3.before.before.before in
+    omega (arith, record_in c_back6.before.before)
 
 pub slice_bounds-call-count : goal.slice_bounds-call-count
-slice_bounds-call-count c = omega (arith, record_in c.before.before.before.before.before.before.before.before)
+slice_bounds-call-count c =
+    let c_back3 = c.before.before.before in
+    let c_back6 = c_back3.before.before.before in
+    omega (arith, record_in c_back6.before.before)
 
 pub slice_bounds-call-start : goal.slice_bounds-call-start
-slice_bounds-call-start c = omega (arith, record_in c.before.before.before.before.before.before.before.before)
+slice_bounds-call-start c =
+    let c_back3 = c.before.before.before in
+    let c_back6 = c_back3.before.before.before in
+    omega (arith, record_in c_back6.before.before)
 
 pub slice_bounds-call-end : goal.slice_bounds-call-end
-slice_bounds-call-end c = omega (arith, record_in c.before.before.before.before.before.before.before.before)
+slice_bounds-call-end c =
+    let c_back3 = c.before.before.before in
+    let c_back6 = c_back3.before.before.before in
+    omega (arith, record_in c_back6.before.before)
 
 pub overflow_add-at : goal.overflow_add-at
-overflow_add-at c = omega (arith, room c.before.before.before.before.before.before.before, room_now c.before.before.before.before.before.before.before)
+overflow_add-at c =
+    let c_back3 = c.before.before.before in
+    let c_back6 = c_back3.before.before.before in
+    omega (
+      arith,
+      room c_back6.before,
+      room_now
+          c_back6.before,
+    )
 
 pub slice_bounds-call-count-in-loop-i : goal.slice_bounds-call-count-in-loop-i
-slice_bounds-call-count-in-loop-i c = omega (arith, room c.before.before.before.before.before.before.before, room_now c.before.before.before.before.before.before.before)
+slice_bounds-call-count-in-loop-i c =
+    let c_back3 = c.before.before.before in
+    let c_back6 = c_back3.before.before.before in
+    omega (
+      arith,
+      room c_back6.before,
+      room_now c_back6.before,
+    )
 
 pub slice_bounds-call-start-in-loop-i : goal.slice_bounds-call-start-in-loop-i
-slice_bounds-call-start-in-loop-i c = omega (arith, room c.before.before.before.before.before.before.before, room_now c.before.before.before.before.before.before.before)
+slice_bounds-call-start-in-loop-i c =
+    let c_back3 = c.before.before.before in
+    let c_back6 = c_back3.before.before.before in
+    omega (
+      arith,
+      room c_back6.before,
+      room_now c_back6.before,
+    )
 
 pub slice_bounds-call-end-in-loop-i : goal.slice_bounds-call-end-in-loop-i
-slice_bounds-call-end-in-loop-i c = room_now c.before.before.before.before.before.before.before
+slice_bounds-call-end-in-loop-i c =
+    let c_back3 = c.before.before.before in
+    let c_back6 = c_back3.before.before.before in
+    room_now c_back6.before
 
 pub overflow_add-at-in-loop-i : goal.overflow_add-at-in-loop-i
-overflow_add-at-in-loop-i c = omega (arith, room c.before.before.before.before.before.before.before.before.before.before.before)
+overflow_add-at-in-loop-i c =
+    let c_back3 = c.before.before.before in
+    let c_back6 = c_back3.before.before.before in
+    let c_back9 = c_back6.before.before.before in
+    omega (
+      arith,
+      room
+          c_back9.before.before,
+    )
 
 pub overflow_step-i : goal.overflow_step-i
 overflow_step-i c = omega arith

@@ -7,7 +7,8 @@ use Rattle.history_replay.proofs.all.Given as goal
 
 abbrev pub invariant-loop-i : goal.invariant-loop-i
 invariant-loop-i l =
-    Calling l.calls l.lent (arrays l.initial.times l.initial.lengths l.initial.bytes l.initial.copies l.initial.numbers) l.i l.i-end l.initial.out l.out l.at
+    Calling l.calls l.lent (arrays l.initial.times l.initial.lengths l.initial.bytes l.initial.copies
+    l.initial.numbers) l.i l.i-end l.initial.out l.out l.at
     (arrays l.times l.lengths l.bytes l.copies l.numbers)
 
 abbrev pub decreases-loop-i : goal.decreases-loop-i

@@ -51,7 +51,9 @@ other c lent =
 
 pub looked-requires : goal.looked-requires
 looked-requires c =
-    rw (call_look [] c.args.r.now (other c.before.before.before.before.before.before.before [])) at c.requires.1
+    let c_back3 = c.before.before.before in
+    let c_back6 = c_back3.before.before.before in
+    rw (call_look [] c.args.r.now (other c_back6.before [])) at c.requires.1
 
 pub returns-then-operation-eq-RECEIVING : goal.returns-then-operation-eq-RECEIVING
 returns-then-operation-eq-RECEIVING c =
@@ -85,5 +87,9 @@ returns-then-operation-eq-ASKING c =
 
 pub returns : goal.returns
 returns c =
+    let c_back3 = c.before.before.before in
+    let c_back6 = c_back3.before.before.before in
+    let c_back9 = c_back6.before.before.before in
     let a = c.args in
-    rw (call_look a.lent.now a.r.now (other c.before.before.before.before.before.before.before.before.before.before a.lent.now)) c.looked.ensures
+    rw (call_look a.lent.now a.r.now (other c_back9.before
+    a.lent.now)) c.looked.ensures

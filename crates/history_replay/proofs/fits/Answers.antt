@@ -19,7 +19,8 @@ abbrev In-loop-i : Type 0
 In-loop-i = lts.In-loop tie.the-claims reads.Pre reads.Post goal.the-invariant-loop-i goal.the-decreases-loop-i
 
 abbrev After-size_in-size : Type 0
-After-size_in-size = lts.After-size_in tie.the-claims reads.Pre reads.Post goal.the-invariant-loop-i goal.the-decreases-loop-i
+After-size_in-size = lts.After-size_in tie.the-claims reads.Pre reads.Post goal.the-invariant-loop-i
+    goal.the-decreases-loop-i
 
 -- in a turn there is a whole record
 record_in : (c : In-loop-i)

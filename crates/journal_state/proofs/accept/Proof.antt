@@ -36,7 +36,8 @@ size c =
 abbrev begin : tie.Else1 → tie.Start
 begin c = c.before.before
 
-is_length : (c : tie.Else1) → eqb (length (begin c).args.bytes.now) state_length || eqb (length (begin c).args.bytes.now) old_length ≡ true
+is_length : (c : tie.Else1) → eqb (length (begin c).args.bytes.now) state_length
+    || eqb (length (begin c).args.bytes.now) old_length ≡ true
 is_length c = files.is_length (length (begin c).args.bytes.now) false c.if1.false
 
 long : (c : tie.Else1) → old_length ≤ length (begin c).args.bytes.now
@@ -118,7 +119,8 @@ tail_is c =
     let e = first p in
     let n : length (begin e).args.tail.now ≡ max_tail = search rules in
     c.put-bytes5.ensures
-    ∙ resized_whole _ p.put-bytes.last.0 (ap length (rest_is p) ∙ resized-length max_tail (drop old_length (begin e).args.bytes.now) ∙ sym n)
+    ∙ resized_whole _ p.put-bytes.last.0 (ap length (rest_is p)
+    ∙ resized-length max_tail (drop old_length (begin e).args.bytes.now) ∙ sym n)
     ∙ rest_is p
 
 accepted : tie.Need-returns-3

@@ -38,7 +38,8 @@ is_lawful_of_two-requires c = known _ _ (named c.before.before)
 pub returns-then-plan-eq-NO_SLOT : goal.returns-then-plan-eq-NO_SLOT
 unfolding is_lawful_by
 returns-then-plan-eq-NO_SLOT c =
-    simp (timed c.before.before.before, named c.before.before.before, eq-eqb _ _ c.if-plan-eq-NO_SLOT.true) c.is_lawful_of_two.ensures
+    simp (timed c.before.before.before, named c.before.before.before, eq-eqb _ _ c.if-plan-eq-NO_SLOT.true)
+    c.is_lawful_of_two.ensures
 
 pub is_lawful_of_three-requires : goal.is_lawful_of_three-requires
 is_lawful_of_three-requires c = known _ _ (named c.before.before)
@@ -46,4 +47,5 @@ is_lawful_of_three-requires c = known _ _ (named c.before.before)
 pub returns : goal.returns
 unfolding is_lawful_by
 returns c =
-    simp (timed c.before.before.before, named c.before.before.before, ne_eqb _ _ c.if-plan-eq-NO_SLOT.false) c.is_lawful_of_three.ensures
+    simp (timed c.before.before.before, named c.before.before.before, ne_eqb _ _ c.if-plan-eq-NO_SLOT.false)
+    c.is_lawful_of_three.ensures

@@ -18,7 +18,8 @@ pub returns-then-bytes-ne0 : goal.returns-then-bytes-ne0
 returns-then-bytes-ne0 c = simp (ne_eqb _ _ c.if-bytes-ne0.true)
 
 pub returns-then-count-gt-MAX_REPEATERS : goal.returns-then-count-gt-MAX_REPEATERS
-returns-then-count-gt-MAX_REPEATERS c = simp (eq-eqb _ _ c.if-bytes-ne0.false) (too_many _ _ c.if-count-gt-MAX_REPEATERS.true)
+returns-then-count-gt-MAX_REPEATERS c = simp (eq-eqb _ _ c.if-bytes-ne0.false)
+    (too_many _ _ c.if-count-gt-MAX_REPEATERS.true)
 
 pub all_in_range-requires : goal.all_in_range-requires
 all_in_range-requires c = holds _ c.if-bytes-ne0.false c.if-count-gt-MAX_REPEATERS.false
@@ -35,7 +36,8 @@ pub returns-then-i-count : goal.returns-then-i-count
 returns-then-i-count c =
     simp (eq-eqb _ _ c.if-bytes-ne0.false)
     (unlawful _ _ c.if-count-gt-MAX_REPEATERS.false
-    (sym c.all_in_range.ensures ∙ c.if-not-all_in_range.false) (enough _ _ (holds _ c.if-bytes-ne0.false c.if-count-gt-MAX_REPEATERS.false)) _
+    (sym c.all_in_range.ensures ∙ c.if-not-all_in_range.false)
+    (enough _ _ (holds _ c.if-bytes-ne0.false c.if-count-gt-MAX_REPEATERS.false)) _
     c.first_unlawful-i.ensures c.if-i-count.true)
 
 pub first_overlap-requires : goal.first_overlap-requires
@@ -46,5 +48,6 @@ returns c =
     simp (eq-eqb _ _ c.if-bytes-ne0.false)
     (c.first_overlap.ensures
     ∙ lawful_pairs _ _ c.if-count-gt-MAX_REPEATERS.false
-    (sym c.all_in_range.ensures ∙ c.if-not-all_in_range.false) (enough _ _ (holds _ c.if-bytes-ne0.false c.if-count-gt-MAX_REPEATERS.false)) _
+    (sym c.all_in_range.ensures ∙ c.if-not-all_in_range.false)
+    (enough _ _ (holds _ c.if-bytes-ne0.false c.if-count-gt-MAX_REPEATERS.false)) _
     c.first_unlawful-i.ensures c.if-i-count.false)

@@ -20,7 +20,8 @@ loop-j-init c =
     record { enough = c.loop-i.invariant.enough; least = omega (arith, c.loop-i-test.true); whole = refl }
 
 -- what the two that were read say is what those of the list say
-read_both : (bytes : List ℕ) (count i j : ℕ) (b d : Assignment) (v : Bool) → HoldsRepeaters count bytes → i < count → j < count
+read_both : (bytes : List ℕ) (count i j : ℕ) (b d : Assignment) (v : Bool) → HoldsRepeaters count bytes → i < count
+    → j < count
     → b ≡ assignment_of (take (9 * i + 9 - 9 * i) (drop (9 * i) bytes))
     → d ≡ assignment_of (take (9 * j + 9 - 9 * j) (drop (9 * j) bytes)) → clash b d ≡ v
     → clash (get_or (assignments_in bytes) i no_assignment) (get_or (assignments_in bytes) j no_assignment) ≡ v
@@ -33,13 +34,15 @@ pub returns-then-clashes : goal.returns-then-clashes
 returns-then-clashes c =
     loops.paired_stop _ _ _ c.loop-i.invariant c.loop-i-test.true _
     (loops.sought_stop (clash _) _ _ _ _ c.loop-j.invariant c.loop-j-test.true
-    (read_both _ _ _ _ _ _ _ c.requires c.loop-i-test.true c.loop-j-test.true c.read_one-b.ensures c.read_one-c.ensures (sym c.clashes.ensures ∙ c.if-clashes.true)))
+    (read_both _ _ _ _ _ _ _ c.requires c.loop-i-test.true c.loop-j-test.true c.read_one-b.ensures
+    c.read_one-c.ensures (sym c.clashes.ensures ∙ c.if-clashes.true)))
     c.loop-j-test.true
 
 pub loop-j-preserved : goal.loop-j-preserved
 loop-j-preserved c =
     loops.sought_next (clash _) _ _ _ _ c.loop-j.invariant c.loop-j-test.true
-    (read_both _ _ _ _ _ _ _ c.requires c.loop-i-test.true c.loop-j-test.true c.read_one-b.ensures c.read_one-c.ensures (sym c.clashes.ensures ∙ c.if-clashes.false))
+    (read_both _ _ _ _ _ _ _ c.requires c.loop-i-test.true c.loop-j-test.true c.read_one-b.ensures
+    c.read_one-c.ensures (sym c.clashes.ensures ∙ c.if-clashes.false))
 
 pub loop-i-preserved : goal.loop-i-preserved
 loop-i-preserved c =

@@ -9,7 +9,8 @@ use Rattle.plan_site.proofs.first_overlap.Given as goal
 
 abbrev pub invariant-loop-j : goal.invariant-loop-j
 invariant-loop-j l =
-    loops.Sought (clash (get_or (assignments_in l.bytes) l.i no_assignment)) l.count (assignments_in l.bytes) (l.i + 1) l.j
+    loops.Sought (clash (get_or (assignments_in l.bytes) l.i no_assignment)) l.count (assignments_in l.bytes)
+    (l.i + 1) l.j
 
 abbrev pub decreases-loop-j : goal.decreases-loop-j
 decreases-loop-j l = l.count - l.j

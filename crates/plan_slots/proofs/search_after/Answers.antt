@@ -28,4 +28,5 @@ returns-then-run-k c =
 
 pub returns : goal.returns
 returns c =
-    after_found _ _ _ _ _ _ _ (follows c.before.before.before.before) c.thirds-run.ensures (search rules)
+    let c_back3 = c.before.before.before in
+    after_found _ _ _ _ _ _ _ (follows c_back3.before) c.thirds-run.ensures (search rules)

@@ -39,7 +39,8 @@ returns-then-not-agree_eight c =
 
 pub returns-then-n : goal.returns-then-n
 returns-then-n c =
-    let r = eight c.before.before.before.before in
+    let c_back3 = c.before.before.before in
+    let r = eight c_back3.before in
     agreed c.args.a.now c.args.b.now c.args.n 8 c.requires.0 c.requires.1 (omega arith) (omega arith)
     (rw c.if-not-agree_eight.false at c.agree_eight.ensures)
     c.agree_eight-then-n.ensures
@@ -52,7 +53,8 @@ returns-then-not-agree_four c =
 
 pub returns-then-n-2 : goal.returns-then-n-2
 returns-then-n-2 c =
-    let r = four c.before.before.before.before in
+    let c_back3 = c.before.before.before in
+    let r = four c_back3.before in
     agreed c.args.a.now c.args.b.now c.args.n 4 c.requires.0 c.requires.1 (omega arith) (omega arith)
     (rw c.if-not-agree_four.false at c.agree_four.ensures)
     c.agree_four-then-n-2.ensures

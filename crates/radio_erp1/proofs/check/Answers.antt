@@ -20,10 +20,12 @@ pub returns-then-bytes : goal.returns-then-bytes
 returns-then-bytes c = check-plain _ (omega arith) (omega arith) (omega arith) (omega arith)
 
 pub returns-then-n-lt-MIN_ADDRESSED_LEN : goal.returns-then-n-lt-MIN_ADDRESSED_LEN
-returns-then-n-lt-MIN_ADDRESSED_LEN c = check_cut _ (omega arith) (omega arith) (omega arith) (omega arith) (omega arith)
+returns-then-n-lt-MIN_ADDRESSED_LEN c = check_cut _ (omega arith) (omega arith) (omega arith) (omega arith)
+    (omega arith)
 
 pub returns-then-bytes-2 : goal.returns-then-bytes-2
-returns-then-bytes-2 c = check_nested _ (omega arith) (omega arith) (omega arith) (omega arith) (omega arith) (omega arith)
+returns-then-bytes-2 c = check_nested _ (omega arith) (omega arith) (omega arith) (omega arith) (omega arith)
+    (omega arith)
 
 pub returns : goal.returns
 returns c = check-addressed _ (omega arith) (omega arith) (omega arith) (omega arith) (omega arith) (omega arith)

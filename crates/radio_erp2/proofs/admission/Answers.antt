@@ -29,18 +29,26 @@ returns-then-is_against_header c = admits_against _ (sym c.is_against_header.ens
 
 pub returns-then-reserved : goal.returns-then-reserved
 returns-then-reserved c =
-    admits-reserved _ (holds c.before.before.before.before.before) (agrees c.before.before.before) c.if-reserved.true
+    let c_back3 = c.before.before.before in
+    admits-reserved _ (holds c_back3.before.before) (agrees c.before.before.before) c.if-reserved.true
 
 pub is_misfitting-requires : goal.is_misfitting-requires
 is_misfitting-requires c =
-    short-most _ (holds c.before.before.before.before.before)
+    let c_back3 = c.before.before.before in
+    short-most _ (holds c_back3.before.before)
 
 pub returns-then-is_misfitting : goal.returns-then-is_misfitting
 returns-then-is_misfitting c =
-    admits_misfit _ (holds c.before.before.before.before.before.before.before) (agrees c.before.before.before.before.before) c.if-reserved.false
+    let c_back3 = c.before.before.before in
+    let c_back6 = c_back3.before.before.before in
+    admits_misfit _ (holds c_back6.before)
+    (agrees c_back3.before.before) c.if-reserved.false
     (sym c.is_misfitting.ensures ∙ c.if-is_misfitting.true)
 
 pub returns : goal.returns
 returns c =
-    admits_all _ (holds c.before.before.before.before.before.before.before) (agrees c.before.before.before.before.before) c.if-reserved.false
+    let c_back3 = c.before.before.before in
+    let c_back6 = c_back3.before.before.before in
+    admits_all _ (holds c_back6.before)
+    (agrees c_back3.before.before) c.if-reserved.false
     (sym c.is_misfitting.ensures ∙ c.if-is_misfitting.false)

@@ -71,27 +71,40 @@ abbrev crc_in : List ℕ → ℕ
 crc_in s = crc_of (part 1 (length_byte s - 1) s)
 
 abbrev list : After-crc8 → List ℕ
-list c = text c.before.before.before.before.before.before
+list c =
+    let c_back3 = c.before.before.before in
+    text c_back3.before.before.before
 
 crc_is : (c : After-crc8) → c.crc8.result ≡ crc_in (list c)
-crc_is c = c.crc8.ensures ∙ ap (λ (x : ℕ). crc_of (part 1 (x - 1) (list c))) (l_is c.before.before.before.before.before.before)
+crc_is c =
+    let c_back3 = c.before.before.before in
+    c.crc8.ensures ∙ ap (λ (x : ℕ). crc_of (part 1 (x - 1) (list c)))
+    (l_is c_back3.before.before.before)
 
 intact : (c : Else-s-l) → get_or (list c.before) (length_byte (list c.before)) 0 ≡ crc_in (list c.before)
-intact c = sym (last_is c.before.before.before.before.before.before.before) ∙ c.if-s-l.false ∙ crc_is c.before
+intact c =
+    let c_back3 = c.before.before.before in
+    let c_back6 = c_back3.before.before.before in
+    sym (last_is c_back6.before) ∙ c.if-s-l.false ∙ crc_is c.before
 
 control_is : (c : After-header_of-h) → c.header_of-h.result ≡ header_in (list c.before.before.before)
 control_is c = c.header_of-h.ensures
 
 abbrev whole : After-long_sizes → List ℕ
-whole c = list c.before.before.before.before.before.before.before
+whole c =
+    let c_back3 = c.before.before.before in
+    let c_back6 = c_back3.before.before.before in
+    list c_back6.before
 
 overhead_is : (c : After-overhead)
     → (let s = whole c.before in c.overhead.result ≡ overhead (long_sizes (header_in s) (get_or s 2 0 % 16)))
 overhead_is c =
+    let c_back3 = c.before.before.before in
     c.overhead.ensures
     ∙ ap overhead
     (c.long_sizes.ensures
-    ∙ ap (λ (h : Header). long_sizes h (get_or (whole c.before) 2 0 % 16)) (control_is c.before.before.before.before.before))
+    ∙ ap (λ (h : Header). long_sizes h (get_or (whole c.before) 2 0 % 16))
+    (control_is c_back3.before.before))
 
 -- ---- the returns
 pub returns-then-n-eq0 : goal.returns-then-n-eq0
@@ -101,21 +114,31 @@ pub returns-then-l-eq0 : goal.returns-then-l-eq0
 returns-then-l-eq0 c = check-zero _ (sym (l_is c.before.before) ∙ c.if-l-eq0.true)
 
 pub returns-then-n-l : goal.returns-then-n-l
-returns-then-n-l c = check-mismatch _ (λ e. c.if-n-l.true (e ∙ sym (ap (λ (x : ℕ). 1 + x) (l_is c.before.before.before))))
+returns-then-n-l c = check-mismatch _ (λ e. c.if-n-l.true
+    (e ∙ sym (ap (λ (x : ℕ). 1 + x) (l_is c.before.before.before))))
 
 pub returns-then-l-le-MAX_SHORT : goal.returns-then-l-le-MAX_SHORT
 returns-then-l-le-MAX_SHORT c =
+    let c_back3 = c.before.before.before in
     check-short _ (some c.before.before.before) (long c.before.before)
-    (rw (l_is c.before.before.before.before) at c.if-l-le-MAX_SHORT.true)
+    (rw (l_is c_back3.before) at c.if-l-le-MAX_SHORT.true)
 
 pub returns-then-s-l : goal.returns-then-s-l
 returns-then-s-l c =
-    check-crc _ (some c.before.before.before.before.before.before.before) (long c.before.before.before.before.before.before) (high c.before.before.before.before.before)
-    (λ e. c.if-s-l.true (last_is c.before.before.before.before.before.before.before.before ∙ e ∙ sym (crc_is c.before.before)))
+    let c_back3 = c.before.before.before in
+    let c_back6 = c_back3.before.before.before in
+    check-crc _ (some c_back6.before)
+    (long c_back3.before.before.before) (high c_back3.before.before)
+    (λ e. c.if-s-l.true (last_is c_back6.before.before ∙ e
+    ∙ sym (crc_is c.before.before)))
 
 pub returns-then-h-ge-RESERVED : goal.returns-then-h-ge-RESERVED
 returns-then-h-ge-RESERVED c =
-    check-reserved _ (some c.before.before.before.before.before.before.before.before.before.before.before) (long c.before.before.before.before.before.before.before.before.before.before) (high c.before.before.before.before.before.before.before.before.before) (intact c.before.before.before.before.before)
+    let c_back3 = c.before.before.before in
+    let c_back6 = c_back3.before.before.before in
+    let c_back9 = c_back6.before.before.before in
+    check-reserved _ (some c_back9.before.before) (long c_back9.before) (high c_back6.before.before.before)
+    (intact c_back3.before.before)
     (rw (control_is c.before.before.before) at c.if-h-ge-RESERVED.true)
 
 pub overhead-requires : goal.overhead-requires
@@ -127,15 +150,27 @@ overhead-requires c =
 
 pub returns-then-l-overhead : goal.returns-then-l-overhead
 returns-then-l-overhead c =
-    check_misfit _ (some c.before.before.before.before.before.before.before.before.before.before.before.before.before.before.before) (long c.before.before.before.before.before.before.before.before.before.before.before.before.before.before) (high c.before.before.before.before.before.before.before.before.before.before.before.before.before) (intact c.before.before.before.before.before.before.before.before.before)
-    (rw (control_is c.before.before.before.before.before.before.before) at c.if-h-ge-RESERVED.false)
-    (rw (l_is c.before.before.before.before.before.before.before.before.before.before.before.before.before.before.before.before, overhead_is c.before.before) at c.if-l-overhead.true)
+    let c_back3 = c.before.before.before in
+    let c_back6 = c_back3.before.before.before in
+    let c_back9 = c_back6.before.before.before in
+    let c_back12 = c_back9.before.before.before in
+    let c_back15 = c_back12.before.before.before in
+    check_misfit _ (some c_back12.before.before.before) (long c_back12.before.before) (high c_back12.before)
+    (intact c_back6.before.before.before)
+    (rw (control_is c_back6.before) at c.if-h-ge-RESERVED.false)
+    (rw (l_is c_back15.before, overhead_is c.before.before) at c.if-l-overhead.true)
 
 pub returns : goal.returns
 returns c =
-    check-long _ (some c.before.before.before.before.before.before.before.before.before.before.before.before.before.before.before) (long c.before.before.before.before.before.before.before.before.before.before.before.before.before.before) (high c.before.before.before.before.before.before.before.before.before.before.before.before.before) (intact c.before.before.before.before.before.before.before.before.before)
-    (rw (control_is c.before.before.before.before.before.before.before) at c.if-h-ge-RESERVED.false)
-    (rw (l_is c.before.before.before.before.before.before.before.before.before.before.before.before.before.before.before.before, overhead_is c.before.before) at c.if-l-overhead.false)
+    let c_back3 = c.before.before.before in
+    let c_back6 = c_back3.before.before.before in
+    let c_back9 = c_back6.before.before.before in
+    let c_back12 = c_back9.before.before.before in
+    let c_back15 = c_back12.before.before.before in
+    check-long _ (some c_back12.before.before.before) (long c_back12.before.before) (high c_back12.before)
+    (intact c_back6.before.before.before)
+    (rw (control_is c_back6.before) at c.if-h-ge-RESERVED.false)
+    (rw (l_is c_back15.before, overhead_is c.before.before) at c.if-l-overhead.false)
 
 pub bounds-s-l : goal.bounds-s-l
 bounds-s-l c = omega arith

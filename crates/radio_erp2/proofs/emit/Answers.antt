@@ -58,7 +58,11 @@ put_row-requires c =
 
 pub returns : goal.returns
 returns c =
-    build_done _ c.requires _ (shaped c.before.before.before.before.before.before.before.before.before.before) (rw (end_is c.before.before.before.before.before.before.before) at c.if-out-end.false) _ (end_is c.before.before.before.before.before.before.before) _
+    let c_back3 = c.before.before.before in
+    let c_back6 = c_back3.before.before.before in
+    let c_back9 = c_back6.before.before.before in
+    build_done _ c.requires _ (shaped c_back9.before) (rw (end_is c_back6.before) at c.if-out-end.false) _
+    (end_is c_back6.before) _
     (c.put_row.ensures
     ∙ ap (λ (z : Sizes). row_written c.args.t z c.args.out.now) c.sizes_for-z.ensures)
 

@@ -41,9 +41,11 @@ overflow_add-size c =
 
 pub returns-then-t-ne0 : goal.returns-then-t-ne0
 returns-then-t-ne0 c =
-    rw (size_is c.before.before.before.before, c.usize_of_byte.ensures.0)
-    (short_misfit (telegram c.before.before.before.before) (ap not (ne_eqb _ _ c.if-t-ne0.true)))
+    let c_back3 = c.before.before.before in
+    rw (size_is c_back3.before, c.usize_of_byte.ensures.0)
+    (short_misfit (telegram c_back3.before) (ap not (ne_eqb _ _ c.if-t-ne0.true)))
 
 pub returns : goal.returns
 returns c =
-    rw (size_is c.before.before.before) (long_misfit (telegram c.before.before.before) (ap not (eq-eqb _ _ c.if-t-ne0.false)))
+    rw (size_is c.before.before.before) (long_misfit (telegram c.before.before.before)
+    (ap not (eq-eqb _ _ c.if-t-ne0.false)))

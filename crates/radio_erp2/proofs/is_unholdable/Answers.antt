@@ -23,9 +23,13 @@ limit_is c = c.limit.ensures ∙ ap (λ (z : Sizes). 256 ^ z.originator) c.sizes
 pub returns-then-t-ne0 : goal.returns-then-t-ne0
 unfolding is_unholdable
 returns-then-t-ne0 c =
-    rw (limit_is c.before.before.before.before, ne_eqb _ _ c.if-t-ne0.true)
+    let c_back3 = c.before.before.before in
+    rw (limit_is c_back3.before, ne_eqb _ _ c.if-t-ne0.true)
 
 pub returns : goal.returns
 unfolding is_unholdable
 returns c =
-    rw (limit_is c.before.before.before.before.before.before.before.before.before.before, eq-eqb _ _ c.if-t-ne0.false)
+    let c_back3 = c.before.before.before in
+    let c_back6 = c_back3.before.before.before in
+    let c_back9 = c_back6.before.before.before in
+    rw (limit_is c_back9.before, eq-eqb _ _ c.if-t-ne0.false)

@@ -40,23 +40,33 @@ step1 c =
 abbrev step2 : (c : After-put_bytes-2)
     → (let a = c.args in Writing (a.t.len + a.z.optional))
 step2 c =
+    let c_back3 = c.before.before.before in
     let a = c.args in
     packed
-    (lend_sized (step1 c.before.before.before.before.before).begun _
+    (lend_sized (step1 c_back3.before.before).begun _
     (λ w. resized w (part 0 (a.t.len + a.z.optional - a.t.len - 0) a.t.optional))
     (a.t.len + a.z.optional) c.put_bytes-2.ensures
     c.put_bytes-2.auto.out (omega arith) (omega (arith, c.requires.0)))
 
 pub returns : goal.returns
 returns c =
+    let c_back3 = c.before.before.before in
+    let c_back6 = c_back3.before.before.before in
+    let c_back9 = c_back6.before.before.before in
+    let c_back12 = c_back9.before.before.before in
     let a = c.args in
     let v = c.requires in
     done (step2 c.before.before.before).begun v.0
-    ∙ data_is a.t a.z (payload-long c.before.before.before.before.before.before.before.before.before.before.before.before.before.before.before) (optional-long c.before.before.before.before.before.before.before.before.before.before.before.before.before.before.before) v.1 v.2
+    ∙ data_is a.t a.z (payload-long c_back12.before.before.before) (optional-long c_back12.before.before.before) v.1 v.2
 
 pub slice_bounds-put_bytes-end-2 : goal.slice_bounds-put_bytes-end-2
-slice_bounds-put_bytes-end-2 c = omega (arith, payload-long c.before.before.before.before.before, c.requires.1)
+slice_bounds-put_bytes-end-2 c =
+    let c_back3 = c.before.before.before in
+    omega (arith, payload-long c_back3.before.before, c.requires.1)
 
 pub slice_bounds-put_bytes-end-4 : goal.slice_bounds-put_bytes-end-4
 slice_bounds-put_bytes-end-4 c =
-    omega (arith, optional-long c.before.before.before.before.before.before.before.before.before.before, c.requires.2)
+    let c_back3 = c.before.before.before in
+    let c_back6 = c_back3.before.before.before in
+    let c_back9 = c_back6.before.before.before in
+    omega (arith, optional-long c_back9.before, c.requires.2)

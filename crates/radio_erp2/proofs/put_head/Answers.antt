@@ -40,23 +40,26 @@ end_at z = 1 + z.header + z.extension + z.subtype
 
 abbrev step1 : (c : After-put_number) → Writing (extension_at c.args.z)
 step1 c =
+    let c_back3 = c.before.before.before in
     let a = c.args in
     packed
-    (lend_sized (step0 c.before.before.before.before).begun _ (λ w. be w c.header_byte.result)
+    (lend_sized (step0 c_back3.before).begun _ (λ w. be w c.header_byte.result)
     (extension_at a.z) c.put_number.ensures
     c.put_number.auto.out (omega arith) (omega (arith, c.requires)))
 
 abbrev step2 : (c : After-put_number-2) → Writing (subtype_at c.args.z)
 step2 c =
+    let c_back3 = c.before.before.before in
     packed
-    (lend_sized (step1 c.before.before.before.before.before.before).begun _ (λ w. be w c.extension_byte.result)
+    (lend_sized (step1 c_back3.before.before.before).begun _ (λ w. be w c.extension_byte.result)
     (subtype_at c.args.z) c.put_number-2.ensures
     c.put_number-2.auto.out (omega arith) (omega (arith, c.requires)))
 
 abbrev step3 : (c : After-put_number-3) → Writing (end_at c.args.z)
 step3 c =
+    let c_back3 = c.before.before.before in
     packed
-    (lend_sized (step2 c.before.before.before.before.before).begun _ (λ w. be w c.byte_number.result)
+    (lend_sized (step2 c_back3.before.before).begun _ (λ w. be w c.byte_number.result)
     (end_at c.args.z) c.put_number-3.ensures
     c.put_number-3.auto.out (omega arith) (omega (arith, c.requires)))
 

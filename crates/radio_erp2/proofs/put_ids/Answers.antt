@@ -28,9 +28,10 @@ step1 c =
 abbrev step2 : (c : After-put_number-2)
     → (let z = c.args.z in Writing (z.originator + z.destination))
 step2 c =
+    let c_back3 = c.before.before.before in
     let a = c.args in
     packed
-    (lend_sized (step1 c.before.before.before.before.before).begun _ (λ w. be w c.id_number.result)
+    (lend_sized (step1 c_back3.before.before).begun _ (λ w. be w c.id_number.result)
     (a.z.originator + a.z.destination) c.put_number-2.ensures
     c.put_number-2.auto.out (omega arith)
     (omega (arith, c.requires)))

@@ -46,15 +46,17 @@ step1 c =
 
 abbrev step2 : (c : After-put_ids) → Writing (data_at c.args.z)
 step2 c =
+    let c_back3 = c.before.before.before in
     let a = c.args in
-    packed (lend (step1 c.before.before.before.before).begun _ (id_bytes a.t a.z) (data_at a.z) c.put_ids.ensures
+    packed (lend (step1 c_back3.before).begun _ (id_bytes a.t a.z) (data_at a.z) c.put_ids.ensures
     c.put_ids.auto.out (omega arith) (omega (arith, c.requires.room)))
 
 abbrev step3 : (c : After-put_data)
     → Writing (end_at c.args.t c.args.z)
 step3 c =
+    let c_back3 = c.before.before.before in
     let a = c.args in
-    packed (lend (step2 c.before.before.before.before).begun _ (data_bytes a.t a.z) (end_at a.t a.z) c.put_data.ensures
+    packed (lend (step2 c_back3.before).begun _ (data_bytes a.t a.z) (end_at a.t a.z) c.put_data.ensures
     c.put_data.auto.out (omega arith) (omega (arith, c.requires.room)))
 
 size_is : (c : After-put_head) → size c ≡ overhead c.args.z + c.args.t.len
@@ -62,15 +64,23 @@ size_is c = ap (λ (n : ℕ). n + c.args.t.len) c.overhead.ensures
 
 pub returns-then-z-ne1 : goal.returns-then-z-ne1
 returns-then-z-ne1 c =
+    let c_back3 = c.before.before.before in
+    let c_back6 = c_back3.before.before.before in
+    let c_back9 = c_back6.before.before.before in
+    let c_back12 = c_back9.before.before.before in
     let a = c.args in
-    plain_is a.t a.z a.out.now _ _ (size c.before.before.before.before.before.before.before.before.before.before.before.before.before) (end_at a.t a.z) (size_is c.before.before.before.before.before.before.before.before.before.before.before.before.before)
-    (row_is a.t a.z (size c.before.before.before.before.before.before.before.before.before.before.before.before.before)) (step3 c.before.before.before.before.before).begun c.requires.crc c.if-z-ne1.true refl
+    plain_is a.t a.z a.out.now _ _ (size c_back12.before) (end_at a.t a.z) (size_is c_back12.before)
+    (row_is a.t a.z (size c_back12.before)) (step3 c_back3.before.before).begun c.requires.crc c.if-z-ne1.true refl
 
 pub returns : goal.returns
 returns c =
+    let c_back3 = c.before.before.before in
+    let c_back6 = c_back3.before.before.before in
+    let c_back9 = c_back6.before.before.before in
+    let c_back12 = c_back9.before.before.before in
     let a = c.args in
-    sealed_is a.t a.z a.out.now _ _ (size c.before.before.before.before.before.before.before.before.before.before.before.before.before.before) (end_at a.t a.z) (size_is c.before.before.before.before.before.before.before.before.before.before.before.before.before.before)
-    (row_is a.t a.z (size c.before.before.before.before.before.before.before.before.before.before.before.before.before.before)) (step3 c.before.before.before.before.before.before).begun c.if-z-ne1.false
+    sealed_is a.t a.z a.out.now _ _ (size c_back12.before.before) (end_at a.t a.z) (size_is c_back12.before.before)
+    (row_is a.t a.z (size c_back12.before.before)) (step3 c_back3.before.before.before).begun c.if-z-ne1.false
     (omega (arith, c.requires.room, c.if-z-ne1.false)) refl _ c.crc8-crc.ensures
 
 pub slice_bounds-put_ids-end : goal.slice_bounds-put_ids-end
@@ -96,17 +106,28 @@ put_data-requires c =
     )
 
 pub shape_of-out-then-z-ne1 : goal.shape_of-out-then-z-ne1
-shape_of-out-then-z-ne1 c = begun_length (step3 c.before.before.before.before.before).begun
+shape_of-out-then-z-ne1 c =
+    let c_back3 = c.before.before.before in
+    begun_length (step3 c_back3.before.before).begun
 
 pub slice_bounds-crc8-end : goal.slice_bounds-crc8-end
 slice_bounds-crc8-end c =
-    within (step3 c.before.before.before.before).begun _ (omega (arith, c.requires.room))
+    let c_back3 = c.before.before.before in
+    within (step3 c_back3.before).begun _ (omega (arith, c.requires.room))
 
 pub bounds-out-end : goal.bounds-out-end
 bounds-out-end c =
-    omega (arith, begun_length (step3 c.before.before.before.before.before.before).begun, c.requires.room, c.if-z-ne1.false)
+    let c_back3 = c.before.before.before in
+    omega (
+      arith,
+      begun_length (step3 c_back3.before.before.before).begun,
+      c.requires.room,
+      c.if-z-ne1.false,
+    )
 
 pub shape_of-out : goal.shape_of-out
 shape_of-out c =
+    let c_back3 = c.before.before.before in
     let a = c.args in
-    length-set (step3 c.before.before.before.before.before.before).xs (end_at a.t a.z) c.crc8-crc.result ∙ begun_length (step3 c.before.before.before.before.before.before).begun
+    length-set (step3 c_back3.before.before.before).xs (end_at a.t a.z) c.crc8-crc.result
+    ∙ begun_length (step3 c_back3.before.before.before).begun

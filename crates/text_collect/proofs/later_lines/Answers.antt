@@ -15,12 +15,17 @@ numbers c =
     let x = c.args.c in
     let counts = c.well_formed.1.0 in
     state-fits x (search rules) (search rules)
-    (small 64 x.copies _ (subst (λ (l : List ℕ). Is (Array u16 64) l counts.0.1.1.1.0) (sym (same x.copies)) counts.1.1.1.1.1.0))
+    (small 64 x.copies _ (subst (λ (l : List ℕ). Is (Array u16 64) l counts.0.1.1.1.0)
+    (sym (same x.copies)) counts.1.1.1.1.1.0))
 
 pub merge_lines-done-requires : goal.merge_lines-done-requires
 unfolding view_of
 merge_lines-done-requires c =
-    record { said = c.is_acceptable-fit.ensures _; fits = numbers (goal.at.merge_lines-done-requires c).After-is_acceptable-fit }
+    record {
+      said = c.is_acceptable-fit.ensures _;
+      fits =
+          numbers (goal.at.merge_lines-done-requires c).After-is_acceptable-fit;
+    }
 
 pub returns : goal.returns
 unfolding view_of

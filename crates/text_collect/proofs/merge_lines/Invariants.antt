@@ -23,7 +23,8 @@ pub record Merging (fit : Bool) (setting : ℕ) (v₀ : View) (input out₀ : Li
 
 abbrev pub invariant-loop-out : goal.invariant-loop-out
 invariant-loop-out l =
-    Merging l.fit l.setting (view_in (columns l.initial.times l.initial.lens l.initial.entries l.initial.copies) l.initial.summary) l.input l.initial.out
+    Merging l.fit l.setting (view_in (columns l.initial.times l.initial.lens l.initial.entries l.initial.copies)
+    l.initial.summary) l.input l.initial.out
     (view_in (columns l.times l.lens l.entries l.copies) l.summary) l.out l.at l.to
 
 abbrev pub decreases-loop-out : goal.decreases-loop-out

@@ -45,8 +45,15 @@ slice_bounds-put_row-end c =
 
 pub returns : goal.returns
 returns c =
+    let c_back3 = c.before.before.before in
+    let c_back6 = c_back3.before.before.before in
     let z : c.relay_kept-n.result - 0 ≡ c.relay_kept-n.result = omega arith in
     let w =
-    rw (c.row_of.ensures, z, (front c.before.before.before.before.before.before.before).1) at
-    (if_fits (omega (arith, (front c.before.before.before.before.before.before.before).0, short c.before.before.before.before.before.before.before)) c.put_row.ensures) in
-    loosened w (omega (arith, short c.before.before.before.before.before.before.before))
+    rw (c.row_of.ensures, z, (front c_back6.before).1) at
+    (if_fits (omega (
+      arith,
+      (front c_back6.before).0,
+      short
+          c_back6.before,
+    )) c.put_row.ensures) in
+    loosened w (omega (arith, short c_back6.before))

@@ -23,15 +23,19 @@ long s = front_long s.args.bytes.now s.args.len s.requires.2 s.requires.3
 
 pub returns-then-len-gt-MAX_LEN : goal.returns-then-len-gt-MAX_LEN
 returns-then-len-gt-MAX_LEN c =
+    let c_back3 = c.before.before.before in
     let xs = take c.args.len c.args.bytes.now in
-    let l = long c.before.before.before.before in
+    let l = long c_back3.before in
     let a = shown_of c.args.answer in
     let e : is_stored a xs ≡ false = rw (lt-leb (length xs) 21 (omega arith)) (and-false (is_kept a || is_loose a)) in
     rw e (printed_none c.args.moments.now c.args.n 1, printed_none c.args.rows.now (23 * c.args.n) 23)
 
 pub returns-in-Kept : goal.returns-in-Kept
 returns-in-Kept c =
-    let l = long c.before.before.before.before.before.before.before.before.before.before.before.before in
+    let c_back3 = c.before.before.before in
+    let c_back6 = c_back3.before.before.before in
+    let c_back9 = c_back6.before.before.before in
+    let l = long c_back9.before.before.before in
     rw (c.in-Kept.is, l, le-leb c.args.len 21 (omega arith)) (rw l at c.put_record.ensures)
 
 pub returns-in-Copy : goal.returns-in-Copy
@@ -41,7 +45,10 @@ returns-in-Copy c =
 
 pub returns-in-Loose : goal.returns-in-Loose
 returns-in-Loose c =
-    let l = long c.before.before.before.before.before.before.before.before.before.before.before.before in
+    let c_back3 = c.before.before.before in
+    let c_back6 = c_back3.before.before.before in
+    let c_back9 = c_back6.before.before.before in
+    let l = long c_back9.before.before.before in
     rw (c.in-Loose.is, l, le-leb c.args.len 21 (omega arith)) (rw l at c.put_record-in-Loose.ensures)
 
 pub returns-in-Refused : goal.returns-in-Refused

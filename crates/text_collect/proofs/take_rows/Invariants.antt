@@ -14,9 +14,11 @@ use Rattle.text_collect.proofs.take_rows.Given as goal
 abbrev pub invariant-loop-out : goal.invariant-loop-out
 invariant-loop-out l =
     Taken (collect model_collector)
-    (Roomy (running_at l.setting (view_in (columns l.initial.times l.initial.lens l.initial.entries l.initial.copies) l.initial.summary)) l.initial.out l.initial.moments)
+    (Roomy (running_at l.setting (view_in (columns l.initial.times l.initial.lens l.initial.entries
+    l.initial.copies) l.initial.summary)) l.initial.out l.initial.moments)
     false l.fit l.setting l.input l.most
-    (view_in (columns l.initial.times l.initial.lens l.initial.entries l.initial.copies) l.initial.summary) (columns l.initial.times l.initial.lens l.initial.entries l.initial.copies)
+    (view_in (columns l.initial.times l.initial.lens l.initial.entries l.initial.copies) l.initial.summary)
+    (columns l.initial.times l.initial.lens l.initial.entries l.initial.copies)
     l.initial.out l.initial.moments l.initial.rows []
     (view_in (columns l.times l.lens l.entries l.copies) l.summary) (columns l.times l.lens l.entries l.copies)
     l.out l.moments l.rows [] l.at l.to l.n 0 l.left

@@ -10,7 +10,13 @@ pub loop-n-init : goal.loop-n-init
 loop-n-init c = record { least = search rules; few = search rules; long = search rules }
 
 pub returns-then-s-n-eq10 : goal.returns-then-s-n-eq10
-returns-then-s-n-eq10 c = λ h. record { least = omega arith; most = omega arith; long = omega arith; ends = c.if-s-n-eq10.true }
+returns-then-s-n-eq10 c = λ h. record {
+  least = omega arith;
+  most = omega arith;
+  long = omega arith;
+  ends =
+      c.if-s-n-eq10.true;
+}
 
 pub loop-n-preserved : goal.loop-n-preserved
 loop-n-preserved c = record { least = omega arith; few = omega arith; long = omega arith }

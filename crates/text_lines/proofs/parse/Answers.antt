@@ -62,14 +62,22 @@ returns-in_default c =
 
 pub returns-then-end-at : goal.returns-then-end-at
 returns-then-end-at c =
-    answer-bad (no_end (text c.before.before.before.before.before.before.before) (timed c.before.before.before.before.before.before.before) c.decode-len.ensures c.if-end-at.true)
+    let c_back3 = c.before.before.before in
+    let c_back6 = c_back3.before.before.before in
+    answer-bad (no_end (text c_back6.before)
+    (timed c_back6.before) c.decode-len.ensures c.if-end-at.true)
     c.bad_line-then-end-at.ensures
 
 pub returns-then-text-at-ne10 : goal.returns-then-text-at-ne10
 returns-then-text-at-ne10 c =
-    answer-bad (no_newline (text c.before.before.before.before.before.before.before.before.before) (timed c.before.before.before.before.before.before.before.before.before) c.decode-len.ensures c.if-text-at-ne10.true)
+    let c_back3 = c.before.before.before in
+    let c_back6 = c_back3.before.before.before in
+    answer-bad (no_newline (text c_back6.before.before.before) (timed
+    c_back6.before.before.before) c.decode-len.ensures c.if-text-at-ne10.true)
     c.bad_line-then-text-at-ne10.ensures
 
 pub returns : goal.returns
 returns c =
-    answer (text c.before.before.before.before.before.before.before) (timed c.before.before.before.before.before.before.before) c.decode-len.ensures c.if-end-at.false c.if-text-at-ne10.false
+    let c_back3 = c.before.before.before in
+    let c_back6 = c_back3.before.before.before in
+    answer (text c_back6.before) (timed c_back6.before) c.decode-len.ensures c.if-end-at.false c.if-text-at-ne10.false

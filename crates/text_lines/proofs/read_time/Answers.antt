@@ -14,7 +14,8 @@ use Rattle.text_lines.proofs.read_time.Goals as goal
 
 -- states on the way
 abbrev In_default : Type 0
-In_default = lts.Past-After-enum_told tie.the-claims reads.Pre reads.Post goal.the-invariant-loop-i goal.the-decreases-loop-i
+In_default = lts.Past-After-enum_told tie.the-claims reads.Pre reads.Post goal.the-invariant-loop-i
+    goal.the-decreases-loop-i
 
 pub loop-i-init : goal.loop-i-init
 loop-i-init c = record { bounded = omega arith; begun = begun_none _ }
@@ -35,20 +36,24 @@ module _ (e : In_default) where
 
 pub returns-then-text-i-ne32 : goal.returns-then-text-i-ne32
 returns-then-text-i-ne32 c =
-    wrong_digit c.loop-i.invariant.begun (more c.before.before.before) c.if-text-i-ne32.true (ends c.before.before.before)
+    wrong_digit c.loop-i.invariant.begun (more c.before.before.before) c.if-text-i-ne32.true
+    (ends c.before.before.before)
 
 pub returns-then-i-eq0 : goal.returns-then-i-eq0
 returns-then-i-eq0 c =
-    no_digit c.loop-i.invariant.begun (more c.before.before.before.before) c.if-text-i-ne32.false c.if-i-eq0.true
+    let c_back3 = c.before.before.before in
+    no_digit c.loop-i.invariant.begun (more c_back3.before) c.if-text-i-ne32.false c.if-i-eq0.true
 
 pub returns-then-i-text : goal.returns-then-i-text
 returns-then-i-text c =
-    zero_first c.loop-i.invariant.begun (more c.before.before.before.before.before.before) c.if-text-i-ne32.false
+    let c_back3 = c.before.before.before in
+    zero_first c.loop-i.invariant.begun (more c_back3.before.before.before) c.if-text-i-ne32.false
     c.if-i-eq0.false c.if-i-text.true
 
 pub returns-in_default : goal.returns-in_default
 returns-in_default c =
-    timed c.loop-i.invariant.begun (more c.before.before.before.before.before.before) c.if-text-i-ne32.false
+    let c_back3 = c.before.before.before in
+    timed c.loop-i.invariant.begun (more c_back3.before.before.before) c.if-text-i-ne32.false
     c.if-i-eq0.false c.if-i-text.false
 
 pub loop-i-preserved : goal.loop-i-preserved

@@ -70,7 +70,8 @@ turn c =
     let roomy = c.before.before.before in
     roomy.before
 
-ran : (c : tie.After-lines invariant_loop decreases_loop) → (let l = (turn c).loop in let input = (start (turn c)).args.input.now in
+ran : (c : tie.After-lines invariant_loop decreases_loop)
+    → (let l = (turn c).loop in let input = (start (turn c)).args.input.now in
     Ran (phase_of l.s) (drop l.at input) (take (length l.out - l.to) (drop l.to l.out))
     c.lines.new.1.1.0 c.lines.result)
 ran c =

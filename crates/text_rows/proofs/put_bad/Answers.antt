@@ -27,4 +27,7 @@ pub write-requires : goal.write-requires
 write-requires c = leb-true _ _ (fits c.before.before.before)
 
 pub returns : goal.returns
-returns c = fitting (fits c.before.before.before.before.before.before.before) c.write.ensures
+returns c =
+    let c_back3 = c.before.before.before in
+    let c_back6 = c_back3.before.before.before in
+    fitting (fits c_back6.before) c.write.ensures

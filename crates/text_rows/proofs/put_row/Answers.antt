@@ -31,4 +31,6 @@ pub write_row-requires : goal.write_row-requires
 write_row-requires c = leb-true _ _ (fits c.before.before)
 
 pub returns : goal.returns
-returns c = fitting (fits c.before.before.before.before.before) c.write_row.ensures
+returns c =
+    let c_back3 = c.before.before.before in
+    fitting (fits c_back3.before.before) c.write_row.ensures

@@ -36,17 +36,21 @@ facts c = let f = scan_facts (scan_of c.args.self) (yes c) in (f.0, f.1)
 pub returns-then-blocks-ne0 : goal.returns-then-blocks-ne0
 returns-then-blocks-ne0 c =
     let a = c.args in
-    c.kept-then-blocks-ne0.ensures ∙ feed_odd (scan_of a.self) a.blocks.now (yes c.before.before.before) c.if-blocks-ne0.true
+    c.kept-then-blocks-ne0.ensures ∙ feed_odd (scan_of a.self) a.blocks.now
+    (yes c.before.before.before) c.if-blocks-ne0.true
 
 pub returns-then-passed-blocks-gt-MAX_BLOCKS : goal.returns-then-passed-blocks-gt-MAX_BLOCKS
 returns-then-passed-blocks-gt-MAX_BLOCKS c =
+    let c_back3 = c.before.before.before in
     let a = c.args in
-    c.kept-then-passed-blocks-gt-MAX_BLOCKS.ensures ∙ feed_many (scan_of a.self) a.blocks.now (yes c.before.before.before.before) c.if-blocks-ne0.false c.if-passed-blocks-gt-MAX_BLOCKS.true
+    c.kept-then-passed-blocks-gt-MAX_BLOCKS.ensures ∙ feed_many (scan_of a.self) a.blocks.now
+    (yes c_back3.before) c.if-blocks-ne0.false c.if-passed-blocks-gt-MAX_BLOCKS.true
 
 pub returns : goal.returns
 returns c =
+    let c_back3 = c.before.before.before in
     let a = c.args in
-    feed-done (scan_of a.self) a.blocks.now (yes c.before.before.before.before) c.if-blocks-ne0.false
+    feed-done (scan_of a.self) a.blocks.now (yes c_back3.before) c.if-blocks-ne0.false
     c.if-passed-blocks-gt-MAX_BLOCKS.false (scan_of c.scan_blocks.result) c.scan_blocks.ensures
 
 pub overflow_add-passed : goal.overflow_add-passed

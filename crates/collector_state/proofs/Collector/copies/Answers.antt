@@ -40,7 +40,8 @@ pub returns-then-not-is_acceptable : goal.returns-then-not-is_acceptable
 returns-then-not-is_acceptable c = c.not_heard.ensures ∙ heard_unacceptable _ _ (failed c.before)
 
 pub returns-then-summary-entry : goal.returns-then-summary-entry
-returns-then-summary-entry c = c.not_heard-then-summary-entry.ensures ∙ heard-closed _ _ (passed c.before.before.before) c.if-summary-entry.true
+returns-then-summary-entry c = c.not_heard-then-summary-entry.ensures
+    ∙ heard-closed _ _ (passed c.before.before.before) c.if-summary-entry.true
 
 -- the entry is open
 few : (c : Else-summary-entry) → c.args.self.summary.count ≤ capacity

@@ -12,18 +12,21 @@ pub returns-then-mark-ge-MARKS : goal.returns-then-mark-ge-MARKS
 returns-then-mark-ge-MARKS c copies =
     let i = c.loop-i.i in
     sym (telegrams-not (columns c.args.times.now c.args.lens.now c.args.bytes.now copies) i c.args.count (omega arith)
-    (new-not-valid (columns c.args.times.now c.args.lens.now c.args.bytes.now copies) i (c.mark_at-mark.ensures.invalid c.if-mark-ge-MARKS.true)))
+    (new-not-valid (columns c.args.times.now c.args.lens.now c.args.bytes.now copies) i
+    (c.mark_at-mark.ensures.invalid c.if-mark-ge-MARKS.true)))
 
 pub is_repeated-requires : goal.is_repeated-requires
 is_repeated-requires c =
-    let len = valid-len c.args.lens.now c.args.bytes.now c.loop-i.i (c.mark_at-mark.ensures.valid c.if-mark-ge-MARKS.false) in
+    let len = valid-len c.args.lens.now c.args.bytes.now c.loop-i.i
+    (c.mark_at-mark.ensures.valid c.if-mark-ge-MARKS.false) in
     (omega arith, len.0, len.1)
 
 pub returns-then-is_repeated : goal.returns-then-is_repeated
 returns-then-is_repeated c copies =
     let i = c.loop-i.i in
     sym (telegrams-not (columns c.args.times.now c.args.lens.now c.args.bytes.now copies) i c.args.count (omega arith)
-    (new-repeated (columns c.args.times.now c.args.lens.now c.args.bytes.now copies) i (is_known (c.is_repeated.ensures copies) c.if-is_repeated.true)))
+    (new-repeated (columns c.args.times.now c.args.lens.now c.args.bytes.now copies) i
+    (is_known (c.is_repeated.ensures copies) c.if-is_repeated.true)))
 
 pub loop-i-preserved : goal.loop-i-preserved
 loop-i-preserved c =
@@ -31,11 +34,15 @@ loop-i-preserved c =
     let mark = c.mark_at-mark.ensures.mark c.if-mark-ge-MARKS.false in
     record {
       bounded = omega arith;
-      passed = λ copies. telegrams-more (columns c.args.times.now c.args.lens.now c.args.bytes.now copies) i (c.loop-i.invariant.passed copies)
-          (new_both (columns c.args.times.now c.args.lens.now c.args.bytes.now copies) i (c.mark_at-mark.ensures.valid c.if-mark-ge-MARKS.false)
+      passed = λ copies. telegrams-more (columns c.args.times.now c.args.lens.now c.args.bytes.now copies) i
+          (c.loop-i.invariant.passed copies)
+          (new_both (columns c.args.times.now c.args.lens.now c.args.bytes.now copies) i
+          (c.mark_at-mark.ensures.valid c.if-mark-ge-MARKS.false)
           (not_known (c.is_repeated.ensures copies) c.if-is_repeated.false
-          (λ z. new-mark (columns c.args.times.now c.args.lens.now c.args.bytes.now copies) i c.loop-i.seen c.loop-i.invariant.marked
-          (c.mark_at-mark.ensures.valid c.if-mark-ge-MARKS.false) (ap (λ (n : ℕ). get_or c.loop-i.seen n 0) (sym mark) ∙ z))));
+          (λ z. new-mark (columns c.args.times.now c.args.lens.now c.args.bytes.now copies) i c.loop-i.seen
+          c.loop-i.invariant.marked
+          (c.mark_at-mark.ensures.valid c.if-mark-ge-MARKS.false)
+          (ap (λ (n : ℕ). get_or c.loop-i.seen n 0) (sym mark) ∙ z))));
       marked =
           marked_more c.args.lens.now c.args.bytes.now i
           c.loop-i.seen c.loop-i.invariant.marked _ mark c.if-mark-ge-MARKS.false;

@@ -35,7 +35,10 @@ returns-then-not-are_timely c copies =
 
 timely : (c : Else-not-are_timely) (copies : List ℕ)
     → (
-    are_timely c.args.summary.latest (entries_at (table c.before.before.before.before.before copies) c.args.summary.count) ≡ true)
+    let c_back3 = c.before.before.before in
+    (
+    are_timely c.args.summary.latest (entries_at
+    (table c_back3.before.before copies) c.args.summary.count) ≡ true))
 timely c copies = sym (c.are_timely.ensures _ refl) ∙ c.if-not-are_timely.false
 
 pub returns-then-not-are_telegrams : goal.returns-then-not-are_telegrams
@@ -45,15 +48,22 @@ returns-then-not-are_telegrams c copies =
 
 telegrams : (c : Else-not-are_telegrams) (copies : List ℕ)
     → (
-    are_telegrams (entries_at (table c.before.before.before.before.before.before.before copies) c.args.summary.count) ≡ true)
+    let c_back3 = c.before.before.before in
+    let c_back6 = c_back3.before.before.before in
+    (
+    are_telegrams (entries_at (table c_back6.before copies)
+    c.args.summary.count) ≡ true))
 telegrams c copies = sym (c.are_telegrams.ensures copies) ∙ c.if-not-are_telegrams.false
 
 pub returns-then-not-is_summed : goal.returns-then-not-is_summed
 returns-then-not-is_summed c copies =
-    not-summed _ _ (entries-length _ _) c.if-count-gt-CAPACITY.false (timely c.before.before.before.before copies)
+    let c_back3 = c.before.before.before in
+    not-summed _ _ (entries-length _ _) c.if-count-gt-CAPACITY.false (timely c_back3.before copies)
     (telegrams c.before.before copies) (sym c.is_summed.ensures ∙ c.if-not-is_summed.true)
 
 pub returns : goal.returns
 returns c copies =
-    all_passed _ _ (entries-length _ _) c.if-count-gt-CAPACITY.false (timely c.before.before.before.before.before copies)
+    let c_back3 = c.before.before.before in
+    all_passed _ _ (entries-length _ _) c.if-count-gt-CAPACITY.false
+    (timely c_back3.before.before copies)
     (telegrams c.before.before.before copies) (sym c.is_summed.ensures ∙ c.if-not-is_summed.false)

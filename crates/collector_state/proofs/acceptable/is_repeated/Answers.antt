@@ -43,7 +43,9 @@ find-requires c =
 
 pub returns : goal.returns
 returns c copies =
+    let c_back3 = c.before.before.before in
     record {
       new = λ e. absurd (c.if-seen-eq0.false e);
-      old = λ _. rw (c.find.ensures copies, shown c.before.before.before.before) (found-known _ _ _ (entries-length _ _));
+      old = λ _. rw (c.find.ensures copies, shown c_back3.before)
+          (found-known _ _ _ (entries-length _ _));
     }

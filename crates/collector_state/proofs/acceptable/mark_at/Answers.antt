@@ -38,7 +38,8 @@ returns-in-Refused c =
 
 pub returns : goal.returns
 returns c =
-    rw (← shown c.before.before.before.before)
+    let c_back3 = c.before.before.before in
+    rw (← shown c_back3.before)
     (has_mark (told-valid _ _ c.check-checked.ensures c.in_default.is)
     c.mark.ensures.0 c.mark.ensures.1)
 

@@ -21,8 +21,10 @@ pub returns-then-is_echo : goal.returns-then-is_echo
 returns-then-is_echo c copies =
     last_found (columns c.args.times.now c.args.lens.now c.args.bytes.now copies) c.args.gone c.args.count
     (record { bytes = c.args.received.now; time = c.args.time }) (c.loop-i.i - 1) (omega arith) (omega arith)
-    (same_echo (columns c.args.times.now c.args.lens.now c.args.bytes.now copies) (c.loop-i.i - 1) (record { bytes = c.args.received.now; time = c.args.time }) (sym c.holds.ensures ∙ c.if-holds.true)
-    ∙ echo_said (columns c.args.times.now c.args.lens.now c.args.bytes.now copies) (c.loop-i.i - 1) (record { bytes = c.args.received.now; time = c.args.time }) _ _ _
+    (same_echo (columns c.args.times.now c.args.lens.now c.args.bytes.now copies) (c.loop-i.i - 1)
+    (record { bytes = c.args.received.now; time = c.args.time }) (sym c.holds.ensures ∙ c.if-holds.true)
+    ∙ echo_said (columns c.args.times.now c.args.lens.now c.args.bytes.now copies) (c.loop-i.i - 1)
+    (record { bytes = c.args.received.now; time = c.args.time }) _ _ _
     c.is_original-original.ensures refl c.is_echo.ensures ∙ c.if-is_echo.true)
     (λ j h k. c.loop-i.invariant.none copies j (omega arith) k)
 
@@ -32,9 +34,12 @@ loop-i-preserved-else-is_echo c =
       above = omega arith;
       bounded = omega arith;
       none =
-          λ copies. down (λ j. is_copy_of (entry_at (columns c.args.times.now c.args.lens.now c.args.bytes.now copies) j) (record { bytes = c.args.received.now; time = c.args.time })) c.loop-i.i c.args.count
-          (same_echo (columns c.args.times.now c.args.lens.now c.args.bytes.now copies) (c.loop-i.i - 1) (record { bytes = c.args.received.now; time = c.args.time }) (sym c.holds.ensures ∙ c.if-holds.true)
-          ∙ echo_said (columns c.args.times.now c.args.lens.now c.args.bytes.now copies) (c.loop-i.i - 1) (record { bytes = c.args.received.now; time = c.args.time }) _ _ _
+          λ copies. down (λ j. is_copy_of (entry_at (columns c.args.times.now c.args.lens.now c.args.bytes.now
+          copies) j) (record { bytes = c.args.received.now; time = c.args.time })) c.loop-i.i c.args.count
+          (same_echo (columns c.args.times.now c.args.lens.now c.args.bytes.now copies) (c.loop-i.i - 1)
+          (record { bytes = c.args.received.now; time = c.args.time }) (sym c.holds.ensures ∙ c.if-holds.true)
+          ∙ echo_said (columns c.args.times.now c.args.lens.now c.args.bytes.now copies) (c.loop-i.i - 1)
+          (record { bytes = c.args.received.now; time = c.args.time }) _ _ _
           c.is_original-original.ensures refl c.is_echo.ensures ∙ c.if-is_echo.false) (c.loop-i.invariant.none copies);
     }
 
@@ -44,15 +49,18 @@ loop-i-preserved c =
       above = omega arith;
       bounded = omega arith;
       none =
-          λ copies. down (λ j. is_copy_of (entry_at (columns c.args.times.now c.args.lens.now c.args.bytes.now copies) j) (record { bytes = c.args.received.now; time = c.args.time })) c.loop-i.i c.args.count
-          (not_same (columns c.args.times.now c.args.lens.now c.args.bytes.now copies) (c.loop-i.i - 1) (record { bytes = c.args.received.now; time = c.args.time }) (sym c.holds.ensures ∙ c.if-holds.false))
+          λ copies. down (λ j. is_copy_of (entry_at (columns c.args.times.now c.args.lens.now c.args.bytes.now
+          copies) j) (record { bytes = c.args.received.now; time = c.args.time })) c.loop-i.i c.args.count
+          (not_same (columns c.args.times.now c.args.lens.now c.args.bytes.now copies) (c.loop-i.i - 1)
+          (record { bytes = c.args.received.now; time = c.args.time }) (sym c.holds.ensures ∙ c.if-holds.false))
           (c.loop-i.invariant.none copies);
     }
 
 pub returns : goal.returns
 returns c copies =
     none_found (columns c.args.times.now c.args.lens.now c.args.bytes.now copies) c.args.gone c.args.count
-    (record { bytes = c.args.received.now; time = c.args.time }) (λ j g k. c.loop-i.invariant.none copies j (omega arith) k)
+    (record { bytes = c.args.received.now; time = c.args.time })
+    (λ j g k. c.loop-i.invariant.none copies j (omega arith) k)
 
 pub loop-i-init : goal.loop-i-init
 loop-i-init c = record { above = omega arith; bounded = omega arith; none = λ copies j h k. absurd (omega arith) }

@@ -40,7 +40,8 @@ decided s r gone answer entry kept heard = let left = s.count - gone in record {
 }
 
 -- a state that may be taken and is not full
-module _ {fit : Bool} (a : Columns) (s : Summary) (r : Reception) (f : Fit fit s) (spare : s.totals.received < max_count) where
+module _ {fit : Bool} (a : Columns) (s : Summary) (r : Reception) (f : Fit fit s)
+    (spare : s.totals.received < max_count) where
   taken : admitted (view_in a s) r ≡ admission fit (view_in a s) r
   taken = is_taken fit a s r f spare
 
@@ -97,7 +98,11 @@ classify-judged-requires c =
     let r : Reception = record { bytes = c.args.received.now; time = c.args.time } in
     let fit = fit-says c.args.fit a c.args.summary r (sym c.is_safe.ensures ∙ c.if-not-is_safe.false) in
     let look : Looked a c.args.summary r c.expired-gone.result =
-    record { passed = sym c.check_reception-checked.ensures ∙ ap checked_number c.in_default.is; expired = c.expired-gone.ensures } in
+    record {
+      passed = sym c.check_reception-checked.ensures
+          ∙ ap checked_number c.in_default.is;
+      expired = c.expired-gone.ensures;
+    } in
     let v = passed-valid (view_in a c.args.summary) r look.passed in (
       c.expired-gone.ensures.few,
       fit.few,
@@ -111,8 +116,13 @@ change-requires c =
     let r : Reception = record { bytes = c.args.received.now; time = c.args.time } in
     let fit = fit-says c.args.fit a c.args.summary r (sym c.is_safe.ensures ∙ c.if-not-is_safe.false) in
     let look : Looked a c.args.summary r c.expired-gone.result =
-    record { passed = sym c.check_reception-checked.ensures ∙ ap checked_number c.in_default.is; expired = c.expired-gone.ensures } in
-    let d = (kept a c.args.summary r fit (omega (arith, c.if-totals.false)) look (c.classify-judged.ensures c.args.copies.now) c.in-Kept.is) in (d.few, d.inside, d.room)
+    record {
+      passed = sym c.check_reception-checked.ensures
+          ∙ ap checked_number c.in_default.is;
+      expired = c.expired-gone.ensures;
+    } in
+    let d = (kept a c.args.summary r fit (omega (arith, c.if-totals.false)) look
+    (c.classify-judged.ensures c.args.copies.now) c.in-Kept.is) in (d.few, d.inside, d.room)
 
 pub change-requires-in-Copy : goal.change-requires-in-Copy
 change-requires-in-Copy c =
@@ -120,8 +130,13 @@ change-requires-in-Copy c =
     let r : Reception = record { bytes = c.args.received.now; time = c.args.time } in
     let fit = fit-says c.args.fit a c.args.summary r (sym c.is_safe.ensures ∙ c.if-not-is_safe.false) in
     let look : Looked a c.args.summary r c.expired-gone.result =
-    record { passed = sym c.check_reception-checked.ensures ∙ ap checked_number c.in_default.is; expired = c.expired-gone.ensures } in
-    let d = (copied a c.args.summary r fit (omega (arith, c.if-totals.false)) look (c.classify-judged.ensures c.args.copies.now) c.in-Copy.is) in (d.few, d.inside, d.room)
+    record {
+      passed = sym c.check_reception-checked.ensures
+          ∙ ap checked_number c.in_default.is;
+      expired = c.expired-gone.ensures;
+    } in
+    let d = (copied a c.args.summary r fit (omega (arith, c.if-totals.false)) look
+    (c.classify-judged.ensures c.args.copies.now) c.in-Copy.is) in (d.few, d.inside, d.room)
 
 pub change-requires-in-Loose : goal.change-requires-in-Loose
 change-requires-in-Loose c =
@@ -129,8 +144,13 @@ change-requires-in-Loose c =
     let r : Reception = record { bytes = c.args.received.now; time = c.args.time } in
     let fit = fit-says c.args.fit a c.args.summary r (sym c.is_safe.ensures ∙ c.if-not-is_safe.false) in
     let look : Looked a c.args.summary r c.expired-gone.result =
-    record { passed = sym c.check_reception-checked.ensures ∙ ap checked_number c.in_default.is; expired = c.expired-gone.ensures } in
-    let d = (loose a c.args.summary r fit (omega (arith, c.if-totals.false)) look (c.classify-judged.ensures c.args.copies.now) c.in-Loose.is) in (d.few, d.inside, d.room)
+    record {
+      passed = sym c.check_reception-checked.ensures
+          ∙ ap checked_number c.in_default.is;
+      expired = c.expired-gone.ensures;
+    } in
+    let d = (loose a c.args.summary r fit (omega (arith, c.if-totals.false)) look
+    (c.classify-judged.ensures c.args.copies.now) c.in-Loose.is) in (d.few, d.inside, d.room)
 
 pub returns-in-Kept : goal.returns-in-Kept
 returns-in-Kept c =
@@ -138,10 +158,15 @@ returns-in-Kept c =
     let r : Reception = record { bytes = c.args.received.now; time = c.args.time } in
     let fit = fit-says c.args.fit a c.args.summary r (sym c.is_safe.ensures ∙ c.if-not-is_safe.false) in
     let look : Looked a c.args.summary r c.expired-gone.result =
-    record { passed = sym c.check_reception-checked.ensures ∙ ap checked_number c.in_default.is; expired = c.expired-gone.ensures } in
+    record {
+      passed = sym c.check_reception-checked.ensures
+          ∙ ap checked_number c.in_default.is;
+      expired = c.expired-gone.ensures;
+    } in
     let x = c.change.ensures in
     rw (c.now_open.ensures, c.counted.ensures)
-    (carried_out (kept a c.args.summary r fit (omega (arith, c.if-totals.false)) look (c.classify-judged.ensures c.args.copies.now) c.in-Kept.is) x.0 x.1 x.2 x.3)
+    (carried_out (kept a c.args.summary r fit (omega (arith, c.if-totals.false)) look
+    (c.classify-judged.ensures c.args.copies.now) c.in-Kept.is) x.0 x.1 x.2 x.3)
 
 pub returns-in-Copy : goal.returns-in-Copy
 returns-in-Copy c =
@@ -149,10 +174,15 @@ returns-in-Copy c =
     let r : Reception = record { bytes = c.args.received.now; time = c.args.time } in
     let fit = fit-says c.args.fit a c.args.summary r (sym c.is_safe.ensures ∙ c.if-not-is_safe.false) in
     let look : Looked a c.args.summary r c.expired-gone.result =
-    record { passed = sym c.check_reception-checked.ensures ∙ ap checked_number c.in_default.is; expired = c.expired-gone.ensures } in
+    record {
+      passed = sym c.check_reception-checked.ensures
+          ∙ ap checked_number c.in_default.is;
+      expired = c.expired-gone.ensures;
+    } in
     let x = c.change-in-Copy.ensures in
     rw (c.now_open-in-Copy.ensures, c.counted-in-Copy.ensures)
-    (carried_out (copied a c.args.summary r fit (omega (arith, c.if-totals.false)) look (c.classify-judged.ensures c.args.copies.now) c.in-Copy.is) x.0 x.1 x.2 x.3)
+    (carried_out (copied a c.args.summary r fit (omega (arith, c.if-totals.false)) look
+    (c.classify-judged.ensures c.args.copies.now) c.in-Copy.is) x.0 x.1 x.2 x.3)
 
 pub returns-in-Loose : goal.returns-in-Loose
 returns-in-Loose c =
@@ -160,10 +190,15 @@ returns-in-Loose c =
     let r : Reception = record { bytes = c.args.received.now; time = c.args.time } in
     let fit = fit-says c.args.fit a c.args.summary r (sym c.is_safe.ensures ∙ c.if-not-is_safe.false) in
     let look : Looked a c.args.summary r c.expired-gone.result =
-    record { passed = sym c.check_reception-checked.ensures ∙ ap checked_number c.in_default.is; expired = c.expired-gone.ensures } in
+    record {
+      passed = sym c.check_reception-checked.ensures
+          ∙ ap checked_number c.in_default.is;
+      expired = c.expired-gone.ensures;
+    } in
     let x = c.change-in-Loose.ensures in
     rw (c.now_open-in-Loose.ensures, c.counted-in-Loose.ensures)
-    (carried_out (loose a c.args.summary r fit (omega (arith, c.if-totals.false)) look (c.classify-judged.ensures c.args.copies.now) c.in-Loose.is) x.0 x.1 x.2 x.3)
+    (carried_out (loose a c.args.summary r fit (omega (arith, c.if-totals.false)) look
+    (c.classify-judged.ensures c.args.copies.now) c.in-Loose.is) x.0 x.1 x.2 x.3)
 
 pub only_counted-requires : goal.only_counted-requires
 only_counted-requires c =
@@ -185,8 +220,13 @@ overflow_add-left c =
     let r : Reception = record { bytes = c.args.received.now; time = c.args.time } in
     let fit = fit-says c.args.fit a c.args.summary r (sym c.is_safe.ensures ∙ c.if-not-is_safe.false) in
     let look : Looked a c.args.summary r c.expired-gone.result =
-    record { passed = sym c.check_reception-checked.ensures ∙ ap checked_number c.in_default.is; expired = c.expired-gone.ensures } in
-    let d = (kept a c.args.summary r fit (omega (arith, c.if-totals.false)) look (c.classify-judged.ensures c.args.copies.now) c.in-Kept.is) in omega (arith, (d.room refl).0)
+    record {
+      passed = sym c.check_reception-checked.ensures
+          ∙ ap checked_number c.in_default.is;
+      expired = c.expired-gone.ensures;
+    } in
+    let d = (kept a c.args.summary r fit (omega (arith, c.if-totals.false)) look
+    (c.classify-judged.ensures c.args.copies.now) c.in-Kept.is) in omega (arith, (d.room refl).0)
 
 pub counted-requires : goal.counted-requires
 counted-requires c =

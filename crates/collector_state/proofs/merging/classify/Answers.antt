@@ -54,13 +54,15 @@ pub returns-then-left-ge-CAPACITY : goal.returns-then-left-ge-CAPACITY
 returns-then-left-ge-CAPACITY c copies =
     judged-other Loose refl
     (rw (open_length c.before.before.before copies)
-    (answer-loose _ _ (sym (known c.before.before.before copies) ∙ le-ltb _ _ c.if-entry-left.false) (le-leb _ _ c.if-left-ge-CAPACITY.true)))
+    (answer-loose _ _ (sym (known c.before.before.before copies) ∙ le-ltb _ _ c.if-entry-left.false)
+    (le-leb _ _ c.if-left-ge-CAPACITY.true)))
 
 pub returns : goal.returns
 returns c copies =
     judged-other Kept refl
     (rw (open_length c.before.before.before copies)
-    (answer-kept _ _ (sym (known c.before.before.before copies) ∙ le-ltb _ _ c.if-entry-left.false) (lt-leb _ _ c.if-left-ge-CAPACITY.false)))
+    (answer-kept _ _ (sym (known c.before.before.before copies) ∙ le-ltb _ _ c.if-entry-left.false)
+    (lt-leb _ _ c.if-left-ge-CAPACITY.false)))
 
 pub overflow_sub-left : goal.overflow_sub-left
 overflow_sub-left c = omega arith

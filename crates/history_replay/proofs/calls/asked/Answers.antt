@@ -21,6 +21,11 @@ lent s =
 
 pub returns : goal.returns
 returns c =
-    heard {s = lent c.before.before.before.before.before.before.before.before.before.before.before} (asked_entry c.args.r.now) _ _ _
-    (c.copies_of-number.ensures ∙ ap (λ k. copies_call (state_at (lent c.before.before.before.before.before.before.before.before.before.before.before)) k 0) c.number_at-entry.ensures)
+    let c_back3 = c.before.before.before in
+    let c_back6 = c_back3.before.before.before in
+    let c_back9 = c_back6.before.before.before in
+    heard {s = lent c_back9.before.before}
+    (asked_entry c.args.r.now) _ _ _
+    (c.copies_of-number.ensures ∙ ap (λ k. copies_call (state_at (lent
+    c_back9.before.before)) k 0) c.number_at-entry.ensures)
     c.totals_of-totals.ensures c.put_body.ensures

@@ -61,32 +61,58 @@ first_room c =
 
 abbrev first : (c : After-put_wrote) → Writing (end c.before.before.before)
 first c =
+    let c_back3 = c.before.before.before in
     let out = c.args.out.now in
     let h = room c.before.before.before in
-    let v = state_at (lent-arrays c.before.before.before.before.before.before) in
+    let v = state_at (lent-arrays c_back3.before.before.before) in
     packed
     (lend (begin out) _ (seen_bytes (wrote_of v (output c.before.before.before))) (end c.before.before.before)
     (c.put_wrote.ensures
-    ∙ ap (λ (o : List ℕ). seen_bytes (wrote_of v o)) (output_is c.args.r.now (part 0 (end c.before.before.before - 0) out)
+    ∙ ap (λ (o : List ℕ). seen_bytes (wrote_of v o))
+    (output_is c.args.r.now (part 0 (end c.before.before.before - 0) out)
     (first_room c.before.before.before ∙ omega (arith, output-length c.before.before.before))))
     c.put_wrote.auto.out (omega arith) (omega arith))
 
-abbrev both : (c : After-put_head) → Writing (end c.before.before.before.before.before.before.before.before.before.before.before.before.before.before.before.before.before.before.before.before.before.before + 50)
+abbrev both : (c : After-put_head) → (
+    let c_back3 = c.before.before.before in
+    let c_back6 = c_back3.before.before.before in
+    let c_back9 = c_back6.before.before.before in
+    let c_back12 = c_back9.before.before.before in
+    let c_back15 = c_back12.before.before.before in
+    let c_back18 = c_back15.before.before.before in
+    let c_back21 = c_back18.before.before.before in
+    Writing (end c_back21.before + 50))
 both c =
-    let h = room c.before.before.before.before.before.before.before.before.before.before.before.before.before.before.before.before.before.before.before.before.before.before in
+    let c_back3 = c.before.before.before in
+    let c_back6 = c_back3.before.before.before in
+    let c_back9 = c_back6.before.before.before in
+    let c_back12 = c_back9.before.before.before in
+    let c_back15 = c_back12.before.before.before in
+    let c_back18 = c_back15.before.before.before in
+    let c_back21 = c_back18.before.before.before in
+    let h = room c_back21.before in
     packed
-    (lend (first c.before.before.before.before.before.before.before.before.before.before.before.before.before.before.before.before.before.before.before).begun _ (head_of restoring c.restore-number.result c.totals_of-totals.result)
-    (end c.before.before.before.before.before.before.before.before.before.before.before.before.before.before.before.before.before.before.before.before.before.before + 50) c.put_head.ensures
+    (lend (first c_back18.before).begun _ (head_of restoring c.restore-number.result c.totals_of-totals.result)
+    (end c_back21.before + 50) c.put_head.ensures
     c.put_head.auto.out (omega arith) (omega arith))
 
 pub returns : goal.returns
 returns c =
-    resumed c.totals_of-totals.ensures (output c.before.before.before.before.before.before.before.before.before.before.before.before.before.before.before.before.before.before.before.before.before.before.before.before.before) _ refl c.fresh.ensures
-    (restored_as (image_lent (state_at (lent-arrays c.before.before.before.before.before.before.before.before.before.before.before.before.before.before.before.before.before.before.before.before.before.before.before.before.before.before.before.before))
-    (output c.before.before.before.before.before.before.before.before.before.before.before.before.before.before.before.before.before.before.before.before.before.before.before.before.before) _ _ c.least-last.result (first c.before.before.before.before.before.before.before.before.before.before.before.before.before.before.before.before.before.before.before.before.before.before).begun.is
-    (c.least-last.ensures ∙ omega (arith, output-length c.before.before.before.before.before.before.before.before.before.before.before.before.before.before.before.before.before.before.before.before.before.before.before.before.before)))
+    let c_back3 = c.before.before.before in
+    let c_back6 = c_back3.before.before.before in
+    let c_back9 = c_back6.before.before.before in
+    let c_back12 = c_back9.before.before.before in
+    let c_back15 = c_back12.before.before.before in
+    let c_back18 = c_back15.before.before.before in
+    let c_back21 = c_back18.before.before.before in
+    let c_back24 = c_back21.before.before.before in
+    let c_back27 = c_back24.before.before.before in
+    resumed c.totals_of-totals.ensures (output c_back24.before) _ refl c.fresh.ensures
+    (restored_as (image_lent (state_at (lent-arrays c_back27.before))
+    (output c_back24.before) _ _ c.least-last.result (first c_back21.before).begun.is
+    (c.least-last.ensures ∙ omega (arith, output-length c_back24.before)))
     c.restore-number.ensures)
-    (done (both c.before.before.before).begun (room c.before.before.before.before.before.before.before.before.before.before.before.before.before.before.before.before.before.before.before.before.before.before.before.before.before))
+    (done (both c.before.before.before).begun (room c_back24.before))
 
 pub overflow_add-end : goal.overflow_add-end
 overflow_add-end c = omega (arith, c.output_length-n.ensures.1)
@@ -101,19 +127,41 @@ pub overflow_add-last : goal.overflow_add-last
 overflow_add-last c = omega (arith, c.least-last.ensures)
 
 pub slice_bounds-restore-end : goal.slice_bounds-restore-end
-slice_bounds-restore-end c = within (first c.before.before.before.before.before.before.before.before.before.before.before.before.before.before.before).begun _
-    (omega (arith, room c.before.before.before.before.before.before.before.before.before.before.before.before.before.before.before.before.before.before, c.least-last.ensures))
+slice_bounds-restore-end c =
+    let c_back3 = c.before.before.before in
+    let c_back6 = c_back3.before.before.before in
+    let c_back9 = c_back6.before.before.before in
+    let c_back12 = c_back9.before.before.before in
+    let c_back15 = c_back12.before.before.before in
+    within (first
+    c_back12.before.before.before).begun _
+    (omega (arith, room c_back15.before.before.before, c.least-last.ensures))
 
 pub overflow_add-end-2 : goal.overflow_add-end-2
 overflow_add-end-2 c = omega (arith, c.output_length-n.ensures.1)
 
 pub slice_bounds-put_head-end : goal.slice_bounds-put_head-end
-slice_bounds-put_head-end c = within (first c.before.before.before.before.before.before.before.before.before.before.before.before.before.before.before.before.before.before).begun _
-    (omega (arith, room c.before.before.before.before.before.before.before.before.before.before.before.before.before.before.before.before.before.before.before.before.before))
+slice_bounds-put_head-end c =
+    let c_back3 = c.before.before.before in
+    let c_back6 = c_back3.before.before.before in
+    let c_back9 = c_back6.before.before.before in
+    let c_back12 = c_back9.before.before.before in
+    let c_back15 = c_back12.before.before.before in
+    let c_back18 = c_back15.before.before.before in
+    within (first c_back15.before.before.before).begun _
+    (omega (arith, room c_back18.before.before.before))
 
 pub put_head-requires : goal.put_head-requires
-put_head-requires c = lent (first c.before.before.before.before.before.before.before.before.before.before.before.before.before.before.before.before.before.before.before).begun 50 _ refl
-    (omega (arith, room c.before.before.before.before.before.before.before.before.before.before.before.before.before.before.before.before.before.before.before.before.before.before))
+put_head-requires c =
+    let c_back3 = c.before.before.before in
+    let c_back6 = c_back3.before.before.before in
+    let c_back9 = c_back6.before.before.before in
+    let c_back12 = c_back9.before.before.before in
+    let c_back15 = c_back12.before.before.before in
+    let c_back18 = c_back15.before.before.before in
+    let c_back21 = c_back18.before.before.before in
+    lent (first c_back18.before).begun 50 _ refl
+    (omega (arith, room c_back21.before))
 
 pub shape_of-out : goal.shape_of-out
 shape_of-out c = begun_length (both c.before.before.before).begun

@@ -58,88 +58,177 @@ in_places c = omega (arith, long c, many c.before)
 abbrev new : After-burst_in-number → List ℕ
 new c = c.burst_in-number.new.places
 
-new-length : (c : After-burst_in-number) → length (new c) ≡ 24 * m c.before.before.before.before.before.before.before.before.before
+new-length : (c : After-burst_in-number) → (
+    let c_back3 = c.before.before.before in
+    let c_back6 = c_back3.before.before.before in
+    length (new c)
+    ≡ 24 * m c_back6.before.before.before)
 new-length c =
-    front_length (24 * m c.before.before.before.before.before.before.before.before.before) c.places_in-places.result
-    (new c) (in_places c.before.before.before.before.before.before.before.before) c.burst_in-number.auto.places
+    let c_back3 = c.before.before.before in
+    let c_back6 = c_back3.before.before.before in
+    front_length (24 * m c_back6.before.before.before) c.places_in-places.result
+    (new c) (in_places c_back6.before.before) c.burst_in-number.auto.places
 
 -- ---- what is written
 
 abbrev step1 : After-put_body → Writing 58
 step1 c =
-    let h = room c.before.before.before.before.before.before.before.before.before.before.before.before.before in
+    let c_back3 = c.before.before.before in
+    let c_back6 = c_back3.before.before.before in
+    let c_back9 = c_back6.before.before.before in
+    let c_back12 = c_back9.before.before.before in
+    let h = room c_back12.before in
     packed
     (lend (begin c.args.out.now) _
-    (head_of delivering c.burst_in-number.result c.totals_of-totals.result ++ be 8 (m c.before.before.before.before.before.before.before.before.before.before.before.before.before)) 58 c.put_body.ensures
+    (head_of delivering c.burst_in-number.result c.totals_of-totals.result ++ be 8 (m c_back12.before)) 58
+    c.put_body.ensures
     c.put_body.auto.out (omega arith) (omega arith))
 
-abbrev step2 : (c : After-put_places) → Writing (58 + 31 * m c.before.before.before.before.before.before.before.before.before.before.before.before.before.before.before.before.before.before)
+abbrev step2 : (c : After-put_places) → (
+    let c_back3 = c.before.before.before in
+    let c_back6 = c_back3.before.before.before in
+    let c_back9 = c_back6.before.before.before in
+    let c_back12 = c_back9.before.before.before in
+    let c_back15 = c_back12.before.before.before in
+    Writing (58 + 31 * m c_back15.before.before.before))
 step2 c =
-    let h = room c.before.before.before.before.before.before.before.before.before.before.before.before.before.before.before.before.before.before in
+    let c_back3 = c.before.before.before in
+    let c_back6 = c_back3.before.before.before in
+    let c_back9 = c_back6.before.before.before in
+    let c_back12 = c_back9.before.before.before in
+    let c_back15 = c_back12.before.before.before in
+    let h = room c_back15.before.before.before in
     packed
-    (lend (step1 c.before.before.before.before.before).begun _ _ (58 + 31 * m c.before.before.before.before.before.before.before.before.before.before.before.before.before.before.before.before.before.before) c.put_places.ensures
+    (lend (step1 c_back3.before.before).begun _ _ (58 + 31 * m c_back15.before.before.before) c.put_places.ensures
     c.put_places.auto.out (omega arith) (omega arith))
 
 -- the places that are lent again
-all_back : (c : After-put_body) → 24 * m c.before.before.before.before.before.before.before.before.before.before.before.before.before
-    ≤ length (come_back (24 * m c.before.before.before.before.before.before.before.before.before.before.before.before.before)
-    c.places_in-places.result (new c.before.before.before.before))
+all_back : (c : After-put_body) → (
+    let c_back3 = c.before.before.before in
+    let c_back6 = c_back3.before.before.before in
+    let c_back9 = c_back6.before.before.before in
+    let c_back12 = c_back9.before.before.before in
+    24 * m c_back12.before
+    ≤ length (come_back (24 * m c_back12.before)
+    c.places_in-places.result (new c_back3.before)))
 all_back c =
+    let c_back3 = c.before.before.before in
+    let c_back6 = c_back3.before.before.before in
+    let c_back9 = c_back6.before.before.before in
+    let c_back12 = c_back9.before.before.before in
     let kept = c.burst_in-number.auto.places in
     omega (
       arith,
-      come_back-length (24 * m c.before.before.before.before.before.before.before.before.before.before.before.before.before) c.places_in-places.result (new c.before.before.before.before) (in_places c.before.before.before.before.before.before.before.before.before.before.before.before) kept,
-      in_places c.before.before.before.before.before.before.before.before.before.before.before.before,
+      come_back-length (24 * m c_back12.before) c.places_in-places.result (new c_back3.before)
+          (in_places c_back9.before.before.before) kept,
+      in_places c_back9.before.before.before,
     )
 
 places_back : (c : After-put_body)
-    → length (part 0 (24 * m c.before.before.before.before.before.before.before.before.before.before.before.before.before - 0)
-    (come_back (24 * m c.before.before.before.before.before.before.before.before.before.before.before.before.before) c.places_in-places.result
-    (new c.before.before.before.before)))
-    ≡ 24 * m c.before.before.before.before.before.before.before.before.before.before.before.before.before
+    → (
+    let c_back3 = c.before.before.before in
+    let c_back6 = c_back3.before.before.before in
+    let c_back9 = c_back6.before.before.before in
+    let c_back12 = c_back9.before.before.before in
+    length (part 0 (24 * m c_back12.before - 0)
+    (come_back (24 * m c_back12.before)
+    c.places_in-places.result
+    (new c_back3.before)))
+    ≡ 24 * m c_back12.before)
 places_back c =
+    let c_back3 = c.before.before.before in
+    let c_back6 = c_back3.before.before.before in
+    let c_back9 = c_back6.before.before.before in
+    let c_back12 = c_back9.before.before.before in
     ap length
-    (come_back_front (24 * m c.before.before.before.before.before.before.before.before.before.before.before.before.before) c.places_in-places.result
-    (new c.before.before.before.before) (in_places c.before.before.before.before.before.before.before.before.before.before.before.before) c.burst_in-number.auto.places)
-    ∙ new-length c.before.before.before.before
+    (come_back_front (24 * m c_back12.before) c.places_in-places.result
+    (new c_back3.before) (in_places c_back9.before.before.before) c.burst_in-number.auto.places)
+    ∙ new-length c_back3.before
 
 pub put_places-requires : goal.put_places-requires
 put_places-requires c =
-    (places_back c.before.before.before.before.before, lent (step1 c.before.before.before.before.before).begun (31 * m c.before.before.before.before.before.before.before.before.before.before.before.before.before.before.before.before.before.before) _ refl (omega (arith, room c.before.before.before.before.before.before.before.before.before.before.before.before.before.before.before.before.before.before)))
+    let c_back3 = c.before.before.before in
+    let c_back6 = c_back3.before.before.before in
+    let c_back9 = c_back6.before.before.before in
+    let c_back12 = c_back9.before.before.before in
+    let c_back15 = c_back12.before.before.before in (
+      places_back c_back3.before.before,
+      lent (step1 c_back3.before.before).begun
+          (31 * m c_back15.before.before.before) _ refl (omega (arith, room c_back15.before.before.before)),
+    )
 
 pub returns : goal.returns
 returns c =
+    let c_back3 = c.before.before.before in
+    let c_back6 = c_back3.before.before.before in
+    let c_back9 = c_back6.before.before.before in
+    let c_back12 = c_back9.before.before.before in
+    let c_back15 = c_back12.before.before.before in
+    let c_back18 = c_back15.before.before.before in
     let r = c.args.r.now in
     delivered c.totals_of-totals.ensures (call_setting r)
-    (burst_receptions_in (lent_in c.args.lent.now r)) _ (new c.before.before.before.before.before.before.before.before.before.before.before.before) (places_in r) (m c.before.before.before.before.before.before.before.before.before.before.before.before.before.before.before.before.before.before.before.before.before)
+    (burst_receptions_in (lent_in c.args.lent.now r)) _ (new c_back9.before.before.before) (places_in r)
+    (m c_back18.before.before.before)
     (made_as (ap burst_receptions_in c.lent_in.ensures) c.burst_in-number.ensures)
-    (ap replies_in_places (front (24 * m c.before.before.before.before.before.before.before.before.before.before.before.before.before.before.before.before.before.before.before.before.before) c.places_in-places.result ∙ c.places_in-places.ensures)
-    ∙ places_lent r (m c.before.before.before.before.before.before.before.before.before.before.before.before.before.before.before.before.before.before.before.before.before) c.requires.0
+    (ap replies_in_places (front (24 * m c_back18.before.before.before) c.places_in-places.result
+    ∙ c.places_in-places.ensures)
+    ∙ places_lent r (m c_back18.before.before.before) c.requires.0
     ∙ ap (λ n. replicate n (place_in r)) c.place_count-m.ensures.0)
-    (count (new c.before.before.before.before.before.before.before.before.before.before.before.before) (m c.before.before.before.before.before.before.before.before.before.before.before.before.before.before.before.before.before.before.before.before.before) (new-length c.before.before.before.before.before.before.before.before.before.before.before.before))
-    (done (step2 c.before.before.before).begun (room c.before.before.before.before.before.before.before.before.before.before.before.before.before.before.before.before.before.before.before.before.before)
+    (count (new c_back9.before.before.before) (m c_back18.before.before.before)
+    (new-length c_back9.before.before.before))
+    (done (step2 c.before.before.before).begun (room c_back18.before.before.before)
     ∙ ap (λ (l : List ℕ). head_of delivering c.burst_in-number.result c.totals_of-totals.result
-    ++ be 8 (m c.before.before.before.before.before.before.before.before.before.before.before.before.before.before.before.before.before.before.before.before.before) ++ flatten (map reply_of (replies_in_places l)))
-    (come_back_front (24 * m c.before.before.before.before.before.before.before.before.before.before.before.before.before.before.before.before.before.before.before.before.before) c.places_in-places.result (new c.before.before.before.before.before.before.before.before.before.before.before.before)
-    (in_places c.before.before.before.before.before.before.before.before.before.before.before.before.before.before.before.before.before.before.before.before) c.burst_in-number.auto.places))
+    ++ be 8 (m c_back18.before.before.before) ++ flatten (map reply_of (replies_in_places l)))
+    (come_back_front (24 * m c_back18.before.before.before) c.places_in-places.result (new c_back9.before.before.before)
+    (in_places c_back18.before.before) c.burst_in-number.auto.places))
 
 pub places_in-places-requires : goal.places_in-places-requires
 places_in-places-requires c = (search rules, c.place_count-m.ensures.1)
 
 pub overflow_mul-m-2 : goal.overflow_mul-m-2
-overflow_mul-m-2 c = omega (arith, many c.before.before.before.before.before.before.before.before.before.before.before.before.before.before.before.before)
+overflow_mul-m-2 c =
+    let c_back3 = c.before.before.before in
+    let c_back6 = c_back3.before.before.before in
+    let c_back9 = c_back6.before.before.before in
+    let c_back12 = c_back9.before.before.before in
+    let c_back15 = c_back12.before.before.before in
+    omega (arith, many c_back15.before)
 
 pub overflow_add-m : goal.overflow_add-m
-overflow_add-m c = omega (arith, many c.before.before.before.before.before.before.before.before.before.before.before.before.before.before.before.before)
+overflow_add-m c =
+    let c_back3 = c.before.before.before in
+    let c_back6 = c_back3.before.before.before in
+    let c_back9 = c_back6.before.before.before in
+    let c_back12 = c_back9.before.before.before in
+    let c_back15 = c_back12.before.before.before in
+    omega (arith, many c_back15.before)
 
 pub slice_bounds-put_places-end : goal.slice_bounds-put_places-end
-slice_bounds-put_places-end c = within (step1 c.before.before.before).begun _ (omega (arith, room c.before.before.before.before.before.before.before.before.before.before.before.before.before.before.before.before))
+slice_bounds-put_places-end c =
+    let c_back3 = c.before.before.before in
+    let c_back6 = c_back3.before.before.before in
+    let c_back9 = c_back6.before.before.before in
+    let c_back12 = c_back9.before.before.before in
+    let c_back15 = c_back12.before.before.before in
+    within (step1 c.before.before.before).begun _ (omega (
+      arith,
+      room
+          c_back15.before,
+    ))
 
 pub overflow_mul-m-3 : goal.overflow_mul-m-3
-overflow_mul-m-3 c = omega (arith, many c.before.before.before.before.before.before.before.before.before.before.before.before.before.before.before.before.before)
+overflow_mul-m-3 c =
+    let c_back3 = c.before.before.before in
+    let c_back6 = c_back3.before.before.before in
+    let c_back9 = c_back6.before.before.before in
+    let c_back12 = c_back9.before.before.before in
+    let c_back15 = c_back12.before.before.before in
+    omega (arith, many c_back15.before.before)
 
 pub slice_bounds-put_places-end-2 : goal.slice_bounds-put_places-end-2
-slice_bounds-put_places-end-2 c = all_back c.before.before.before.before
+slice_bounds-put_places-end-2 c =
+    let c_back3 = c.before.before.before in
+    all_back c_back3.before
 
 pub shape_of-out : goal.shape_of-out
 shape_of-out c = begun_length (step2 c.before.before.before).begun

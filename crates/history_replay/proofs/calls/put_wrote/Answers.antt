@@ -25,7 +25,10 @@ lent s =
 
 pub returns : goal.returns
 returns c =
-    let v = state_at (lent c.before.before.before.before.before.before.before.before.before.before.before) in
+    let c_back3 = c.before.before.before in
+    let c_back6 = c_back3.before.before.before in
+    let c_back9 = c_back6.before.before.before in
+    let v = state_at (lent c_back9.before.before) in
     let entry = c.args.out.now in
     let fill = c.args.fill in
     let n = c.save_into-number.result in

@@ -31,11 +31,17 @@ put_answered-requires c = c.requires.1
 
 pub returns : goal.returns
 returns c =
+    let c_back3 = c.before.before.before in
+    let c_back6 = c_back3.before.before.before in
+    let c_back9 = c_back6.before.before.before in
+    let c_back12 = c_back9.before.before.before in
+    let c_back15 = c_back12.before.before.before in
     let r = c.args.r.now in
     received c.totals_of-totals.ensures (call_setting r)
-    (heard_as (λ i. record { bytes = lent-bytes c.before.before.before.before.before.before.before.before.before.before.before.before.before.before.before.before.before i; time = c.number_at-time.ensures i })
+    (heard_as (λ i. record { bytes = lent-bytes c_back15.before.before i; time = c.number_at-time.ensures i })
     c.take-answer.ensures)
     _ _ _
     (c.sent_for-sent.ensures
-    ∙ λ i. cond (eqb c.take-answer.result 0) (repeat_result (call_setting r) (lent-bytes c.before.before.before.before.before.before.before.before.before.before.before.before.before.before.before.before.before i)).sent (frame_of []))
+    ∙ λ i. cond (eqb c.take-answer.result 0)
+    (repeat_result (call_setting r) (lent-bytes c_back15.before.before i)).sent (frame_of []))
     c.form_with-form.ensures refl c.put_answered.ensures

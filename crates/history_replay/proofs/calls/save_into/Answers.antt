@@ -19,4 +19,8 @@ lent s =
 
 pub returns : goal.returns
 returns c =
-    c.checkpoint.ensures ∙ ap (checkpoint_of (state_at (lent c.before.before.before.before.before.before.before.before.before.before))) c.set_all.ensures
+    let c_back3 = c.before.before.before in
+    let c_back6 = c_back3.before.before.before in
+    let c_back9 = c_back6.before.before.before in
+    c.checkpoint.ensures ∙ ap (checkpoint_of
+    (state_at (lent c_back9.before))) c.set_all.ensures

@@ -24,8 +24,11 @@ lent s =
 
 pub returns : goal.returns
 returns c =
+    let c_back3 = c.before.before.before in
+    let c_back6 = c_back3.before.before.before in
     let a = c.args in
     saved (output_in a.r.now)
     (c.put_wrote.ensures
-    ∙ ap (λ (output : List _). seen_bytes (wrote_of (state_at (lent c.before.before.before.before.before.before.before.before)) output))
+    ∙ ap (λ (output : List _). seen_bytes
+    (wrote_of (state_at (lent c_back6.before.before)) output))
     (output_is a.r.now a.out.now c.requires.1))

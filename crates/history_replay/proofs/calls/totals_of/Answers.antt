@@ -23,5 +23,6 @@ returns-then-number-ne0 c = ap (λ (s : Summary). s.totals) c.summary_in-summary
 
 pub returns : goal.returns
 returns c =
-    totals-done (lent c.before.before.before.before) _ _ _ _ c.totals-number.ensures
+    let c_back3 = c.before.before.before in
+    totals-done (lent c_back3.before) _ _ _ _ c.totals-number.ensures
     c.if-number-ne0.false c.totals_in.ensures

@@ -42,11 +42,15 @@ loop-i-init c =
 
 pub put_frame-requires : goal.put_frame-requires
 put_frame-requires c =
-    let v = c.loop-i.invariant in
-    (lent v.laid.begun 22 _ refl (omega (arith, (room c.before.before.before).1, v.long)), record_length _ _ (room c.before.before.before).0)
+    let v = c.loop-i.invariant in (
+      lent v.laid.begun 22 _ refl (omega (arith, (room c.before.before.before).1, v.long)),
+      record_length _ _
+          (room c.before.before.before).0,
+    )
 
 pub loop-i-preserved : goal.loop-i-preserved
 loop-i-preserved c =
+    let c_back3 = c.before.before.before in
     let v = c.loop-i.invariant in
     let i = c.loop-i.i in
     record {
@@ -54,7 +58,8 @@ loop-i-preserved c =
       few = v.few;
       whole = v.whole;
       laid =
-          laid_next _ 22 _ _ _ i v.laid c.loop-i-test.true (omega (arith, (room c.before.before.before.before.before).1, v.long)) _
+          laid_next _ 22 _ _ _ i v.laid c.loop-i-test.true
+          (omega (arith, (room c_back3.before.before).1, v.long)) _
           (c.put_frame.ensures ∙ ap frame_in (lent_record c.args.records.now i)
           ∙ sym (frame_at c.args.records.now c.args.n i c.loop-i-test.true))
           c.put_frame.auto.out;

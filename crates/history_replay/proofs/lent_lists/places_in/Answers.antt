@@ -36,13 +36,14 @@ put_old-requires c =
 
 pub loop-i-preserved : goal.loop-i-preserved
 loop-i-preserved c =
+    let c_back3 = c.before.before.before in
     let v = c.loop-i.invariant in
     let i = c.loop-i.i in
     record {
       long = v.long;
       few = v.few;
       laid =
-          laid_next _ 24 _ _ _ i v.laid c.loop-i-test.true (omega (arith, room c.before.before.before.before, v.long)) _
+          laid_next _ 24 _ _ _ i v.laid c.loop-i-test.true (omega (arith, room c_back3.before, v.long)) _
           (c.put_old.ensures ∙ sym (old_at c.args.r.now c.args.m i c.loop-i-test.true))
           c.put_old.auto.out;
     }

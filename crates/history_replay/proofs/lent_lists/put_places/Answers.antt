@@ -39,9 +39,10 @@ put_place-requires c =
 
 pub loop-i-preserved : goal.loop-i-preserved
 loop-i-preserved c =
+    let c_back3 = c.before.before.before in
     let i = c.loop-i.i in
     let places = c.args.places.now in
-    laid_next _ 31 _ _ _ i c.loop-i.invariant c.loop-i-test.true (room c.before.before.before.before.before.before).0 _
+    laid_next _ 31 _ _ _ i c.loop-i.invariant c.loop-i-test.true (room c_back3.before.before.before).0 _
     (c.put_place.ensures ∙ ap (λ (l : List ℕ). reply_of (replied_in l)) (part-ends (24 * i) 24 places)
     ∙ sym (cell_at places c.args.m c.requires.0 i c.loop-i-test.true))
     c.put_place.auto.out

@@ -25,8 +25,11 @@ answer c = c.copies-heard.ensures ∙ ap (copies_of (view_of c.args.c)) c.number
 
 pub returns : goal.returns
 returns c =
+    let c_back3 = c.before.before.before in
+    let c_back6 = c_back3.before.before.before in
     let a = c.args in
-    heard-value (asked_entry a.r.now) c.copies-heard.result (answer c.before.before.before.before.before.before.before.before)
+    heard-value (asked_entry a.r.now) c.copies-heard.result
+    (answer c_back6.before.before)
     (c.put_body.ensures
     ∙ λ i. head_of asking (c.outcome_number-number.ensures i) a.c.summary.totals
     ++ be 8 c.copies-heard.result.copies)

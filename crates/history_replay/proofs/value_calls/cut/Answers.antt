@@ -58,30 +58,44 @@ first c =
     packed
     (lend (begin out) _ (seen_bytes (wrote_of v (output c.before.before.before))) (end c.before.before.before)
     (c.put_wrote.ensures
-    ∙ ap (λ (o : List ℕ). seen_bytes (wrote_of v o)) (output_is c.args.r.now (part 0 (end c.before.before.before - 0) out)
+    ∙ ap (λ (o : List ℕ). seen_bytes (wrote_of v o))
+    (output_is c.args.r.now (part 0 (end c.before.before.before - 0) out)
     (first_room c.before.before.before ∙ omega (arith, output-length c.before.before.before))))
     c.put_wrote.auto.out (omega arith) (omega arith))
 
 -- what `restore` ensures of the image in it
-restored : (c : After-restore-restored) → Restores c.fresh.result
-    (take image_length (checkpoint_of (view_of c.args.c) (output c.before.before.before.before.before.before.before.before.before)).output)
-    c.restore-restored.result
+restored : (c : After-restore-restored) → (
+    let c_back3 = c.before.before.before in
+    let c_back6 = c_back3.before.before.before in
+    Restores c.fresh.result
+    (take image_length (checkpoint_of (view_of c.args.c)
+    (output c_back6.before.before.before)).output)
+    c.restore-restored.result)
 restored c =
+    let c_back3 = c.before.before.before in
+    let c_back6 = c_back3.before.before.before in
     restored_as_value
-    (image_lent (view_of c.args.c) (output c.before.before.before.before.before.before.before.before.before) _ _ c.least-last.result
-    (first c.before.before.before.before.before.before).begun.is (c.least-last.ensures ∙ omega (arith, output-length c.before.before.before.before.before.before.before.before.before)))
+    (image_lent (view_of c.args.c) (output c_back6.before.before.before) _ _
+    c.least-last.result
+    (first c_back3.before.before.before).begun.is (c.least-last.ensures
+    ∙ omega (arith, output-length c_back6.before.before.before)))
     c.restore-restored.ensures
 
 pub returns : goal.returns
 returns c =
-    let h = room c.before.before.before.before.before.before.before.before.before.before.before.before.before.before.before.before.before in
+    let c_back3 = c.before.before.before in
+    let c_back6 = c_back3.before.before.before in
+    let c_back9 = c_back6.before.before.before in
+    let c_back12 = c_back9.before.before.before in
+    let c_back15 = c_back12.before.before.before in
+    let h = room c_back15.before.before in
     let totals = c.restore-restored.result.next.summary.totals in
     let both =
-    lend (first c.before.before.before.before.before.before.before.before.before.before.before.before.before.before).begun _
-    (head_of restoring (outcome_number c.restore-restored.result.answer) totals) (end c.before.before.before.before.before.before.before.before.before.before.before.before.before.before.before.before.before + 50)
+    lend (first c_back12.before.before).begun _
+    (head_of restoring (outcome_number c.restore-restored.result.answer) totals) (end c_back15.before.before + 50)
     (c.put_head.ensures ∙ λ i. head_of restoring (c.outcome_number-number.ensures i) totals)
     c.put_head.auto.out (omega arith) (omega arith) in
-    resumed-value (output c.before.before.before.before.before.before.before.before.before.before.before.before.before.before.before.before.before) _ refl c.fresh.ensures (restored c.before.before.before.before.before.before.before.before) (done both h)
+    resumed-value (output c_back15.before.before) _ refl c.fresh.ensures (restored c_back6.before.before) (done both h)
 
 pub overflow_add-end : goal.overflow_add-end
 overflow_add-end c = omega (arith, c.output_length-n.ensures.1)
@@ -102,8 +116,11 @@ pub overflow_add-last : goal.overflow_add-last
 overflow_add-last c = omega (arith, c.output_length-n.ensures.1)
 
 pub slice_bounds-restore-end : goal.slice_bounds-restore-end
-slice_bounds-restore-end c = within (first c.before.before.before.before.before).begun _
-    (omega (arith, room c.before.before.before.before.before.before.before.before, c.least-last.ensures))
+slice_bounds-restore-end c =
+    let c_back3 = c.before.before.before in
+    let c_back6 = c_back3.before.before.before in
+    within (first c_back3.before.before).begun _
+    (omega (arith, room c_back6.before.before, c.least-last.ensures))
 
 pub overflow_add-end-2 : goal.overflow_add-end-2
 overflow_add-end-2 c = omega (arith, c.output_length-n.ensures.1)
@@ -112,8 +129,18 @@ pub slice_bounds-put_head-count : goal.slice_bounds-put_head-count
 slice_bounds-put_head-count c = omega arith
 
 pub slice_bounds-put_head-end : goal.slice_bounds-put_head-end
-slice_bounds-put_head-end c = within (first c.before.before.before.before.before.before.before.before.before).begun _ (omega (arith, room c.before.before.before.before.before.before.before.before.before.before.before.before))
+slice_bounds-put_head-end c =
+    let c_back3 = c.before.before.before in
+    let c_back6 = c_back3.before.before.before in
+    let c_back9 = c_back6.before.before.before in
+    within (first c_back6.before.before.before).begun
+    _ (omega (arith, room c_back9.before.before.before))
 
 pub put_head-requires : goal.put_head-requires
-put_head-requires c = lent (first c.before.before.before.before.before.before.before.before.before.before.before).begun 50 _ refl
-    (omega (arith, room c.before.before.before.before.before.before.before.before.before.before.before.before.before.before))
+put_head-requires c =
+    let c_back3 = c.before.before.before in
+    let c_back6 = c_back3.before.before.before in
+    let c_back9 = c_back6.before.before.before in
+    let c_back12 = c_back9.before.before.before in
+    lent (first c_back9.before.before).begun 50 _ refl
+    (omega (arith, room c_back12.before.before))

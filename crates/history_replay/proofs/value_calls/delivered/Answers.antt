@@ -48,7 +48,9 @@ taken c =
 -- the head and the length, and then the places
 abbrev step1 : After-put_body → Writing 58
 step1 c =
-    let h = room c.before.before.before.before.before.before.before in
+    let c_back3 = c.before.before.before in
+    let c_back6 = c_back3.before.before.before in
+    let h = room c_back6.before in
     let m = c.place_count-m.result in
     let totals = c.burst_in-made.result.bursted.next.summary.totals in
     packed
@@ -59,38 +61,67 @@ step1 c =
 
 abbrev step2 : (c : After-put_replies) → Writing (58 + 31 * c.place_count-m.result)
 step2 c =
-    let h = room c.before.before.before.before.before.before.before.before.before.before.before in
+    let c_back3 = c.before.before.before in
+    let c_back6 = c_back3.before.before.before in
+    let c_back9 = c_back6.before.before.before in
+    let h = room c_back9.before.before in
     packed
-    (lend (step1 c.before.before.before.before).begun _ _ (58 + 31 * c.place_count-m.result)
+    (lend (step1 c_back3.before).begun _ _ (58 + 31 * c.place_count-m.result)
     c.put_replies.ensures c.put_replies.auto.out (omega arith)
     (omega arith))
 
 pub put_replies-requires : goal.put_replies-requires
 put_replies-requires c =
-    let m = c.place_count-m.result in
-    (many c.before.before.before.before.before.before.before.before.before.before.before, lent (step1 c.before.before.before.before).begun (31 * m) (58 + 31 * m) refl (omega (arith, room c.before.before.before.before.before.before.before.before.before.before.before)))
+    let c_back3 = c.before.before.before in
+    let c_back6 = c_back3.before.before.before in
+    let c_back9 = c_back6.before.before.before in
+    let m = c.place_count-m.result in (
+      many c_back9.before.before,
+      lent (step1 c_back3.before).begun (31 * m) (58 + 31 * m) refl
+          (omega (arith, room c_back9.before.before)),
+    )
 
 pub returns : goal.returns
 returns c =
+    let c_back3 = c.before.before.before in
+    let c_back6 = c_back3.before.before.before in
+    let c_back9 = c_back6.before.before.before in
+    let c_back12 = c_back9.before.before.before in
     let m = c.place_count-m.result in
-    delivered-value _ _ _ m (taken c.before.before.before.before.before.before.before.before.before.before.before.before.before.before)
-    (given-length (taken c.before.before.before.before.before.before.before.before.before.before.before.before.before.before) (length-replicate _ _ ∙ sym c.place_count-m.ensures.0))
-    (done (step2 c.before.before.before).begun (room c.before.before.before.before.before.before.before.before.before.before.before.before.before.before))
+    delivered-value _ _ _ m (taken c_back12.before.before)
+    (given-length (taken c_back12.before.before) (length-replicate _ _ ∙ sym c.place_count-m.ensures.0))
+    (done (step2 c.before.before.before).begun
+    (room c_back12.before.before))
 
 pub burst_in-made-requires : goal.burst_in-made-requires
 burst_in-made-requires c = (search rules, c.place_count-m.ensures.1)
 
 pub slice_bounds-put_body-end : goal.slice_bounds-put_body-end
-slice_bounds-put_body-end c = omega (arith, room c.before.before.before.before.before)
+slice_bounds-put_body-end c =
+    let c_back3 = c.before.before.before in
+    omega (arith, room c_back3.before.before)
 
 pub overflow_mul-m : goal.overflow_mul-m
-overflow_mul-m c = omega (arith, many c.before.before.before.before.before.before.before.before.before.before)
+overflow_mul-m c =
+    let c_back3 = c.before.before.before in
+    let c_back6 = c_back3.before.before.before in
+    let c_back9 = c_back6.before.before.before in
+    omega (arith, many c_back9.before)
 
 pub overflow_add-m : goal.overflow_add-m
-overflow_add-m c = omega (arith, many c.before.before.before.before.before.before.before.before.before.before)
+overflow_add-m c =
+    let c_back3 = c.before.before.before in
+    let c_back6 = c_back3.before.before.before in
+    let c_back9 = c_back6.before.before.before in
+    omega (arith, many c_back9.before)
 
 pub slice_bounds-put_replies-end : goal.slice_bounds-put_replies-end
-slice_bounds-put_replies-end c = within (step1 c.before.before.before).begun _ (omega (arith, room c.before.before.before.before.before.before.before.before.before.before))
+slice_bounds-put_replies-end c =
+    let c_back3 = c.before.before.before in
+    let c_back6 = c_back3.before.before.before in
+    let c_back9 = c_back6.before.before.before in
+    within (step1 c.before.before.before).begun _
+    (omega (arith, room c_back9.before))
 
 pub shape_of-out : goal.shape_of-out
 shape_of-out c = begun_length (step2 c.before.before.before).begun

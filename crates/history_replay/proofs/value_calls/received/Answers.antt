@@ -52,5 +52,8 @@ sent c =
 
 pub returns : goal.returns
 returns c =
-    received-value (call_setting c.args.r.now) (taken c.before.before.before.before.before.before.before.before.before.before.before) _ _ _ (sent c.before.before.before.before.before.before.before.before)
+    let c_back3 = c.before.before.before in
+    let c_back6 = c_back3.before.before.before in
+    let c_back9 = c_back6.before.before.before in
+    received-value (call_setting c.args.r.now) (taken c_back9.before.before) _ _ _ (sent c_back6.before.before)
     c.form_of-form.ensures c.number_of-number.ensures c.put_answered.ensures

@@ -44,8 +44,11 @@ loop-i-init c = record { bounded = omega arith; begun = begin _ }
 pub loop-i-preserved : goal.loop-i-preserved
 unfolding reply_of
 loop-i-preserved c =
+    let c_back3 = c.before.before.before in
+    let c_back6 = c_back3.before.before.before in
+    let c_back9 = c_back6.before.before.before in
     let a = c.args in
-    let h = places c.before.before.before.before.before.before.before.before.before.before in
+    let h = places c_back9.before in
     let i = c.loop-i.i in
     record {
       bounded = omega arith;
@@ -53,8 +56,10 @@ loop-i-preserved c =
           turn a.out.now (cells a.m a.replies) 31 i _ _
           c.loop-i.invariant.begun (omega (arith, cells-length a.m a.replies h))
           (c.put_reply.ensures
-          ∙ (λ j. reply_cell (c.form_of-form.ensures j) (c.number_of-number.ensures j) (get_or a.replies i no_reply).sent)
-          ∙ sym (cell_at a.m a.replies h i no_reply (omega arith))) c.put_reply.auto.out (room c.before.before.before.before.before.before.before.before.before);
+          ∙ (λ j. reply_cell (c.form_of-form.ensures j) (c.number_of-number.ensures j)
+          (get_or a.replies i no_reply).sent)
+          ∙ sym (cell_at a.m a.replies h i no_reply (omega arith))) c.put_reply.auto.out
+          (room c_back6.before.before.before);
     }
 
 pub returns : goal.returns
@@ -70,7 +75,9 @@ pub bounds-replies-i : goal.bounds-replies-i
 bounds-replies-i c = omega (arith, places c.before)
 
 pub slice_bounds-put_reply-end : goal.slice_bounds-put_reply-end
-slice_bounds-put_reply-end c = within c.loop-i.invariant.begun _ (room c.before.before.before.before)
+slice_bounds-put_reply-end c =
+    let c_back3 = c.before.before.before in
+    within c.loop-i.invariant.begun _ (room c_back3.before)
 
 pub overflow_step-i : goal.overflow_step-i
 overflow_step-i c = omega arith

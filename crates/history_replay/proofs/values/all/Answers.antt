@@ -17,7 +17,8 @@ abbrev In-loop-i : Type 0
 In-loop-i = lts.In-loop tie.the-claims reads.Pre reads.Post goal.the-invariant-loop-i goal.the-decreases-loop-i
 
 abbrev After-size_in-size : Type 0
-After-size_in-size = lts.After-size_in tie.the-claims reads.Pre reads.Post goal.the-invariant-loop-i goal.the-decreases-loop-i
+After-size_in-size = lts.After-size_in tie.the-claims reads.Pre reads.Post goal.the-invariant-loop-i
+    goal.the-decreases-loop-i
 
 -- in a turn there is a whole record
 record_in : (c : In-loop-i)
@@ -37,18 +38,21 @@ room_now : (c : After-size_in-size)
 room_now c = within c.loop-i.invariant.made.begun _ (room c)
 
 pub call-now-requires : goal.call-now-requires
-call-now-requires c = (
-  record_length _ _ (record_in c.before.before.before.before.before),
-  lent c.loop-i.invariant.made.begun c.size_in-size.result _ refl (room c.before.before.before) ∙ c.size_in-size.ensures,
-)
+call-now-requires c =
+    let c_back3 = c.before.before.before in (
+      record_length _ _ (record_in c_back3.before.before),
+      lent c.loop-i.invariant.made.begun c.size_in-size.result _ refl (room c.before.before.before)
+          ∙ c.size_in-size.ensures,
+    )
 
 pub loop-i-preserved : goal.loop-i-preserved
 loop-i-preserved c =
+    let c_back3 = c.before.before.before in
     let a = c.args in
     let next =
     turn a.lent.now a.calls.now c.loop-i.i (omega arith)
     c.loop-i.invariant.made _ _ c.call-now.ensures
-    c.size_in-size.result c.call-now.auto.out (room c.before.before.before.before.before.before)
+    c.size_in-size.result c.call-now.auto.out (room c_back3.before.before.before)
     in
     record { bounded = omega arith; end = omega arith; made = next }
 
@@ -113,7 +117,9 @@ pub slice_bounds-call-end-in-loop-i : goal.slice_bounds-call-end-in-loop-i
 slice_bounds-call-end-in-loop-i c = room_now c.before.before
 
 pub overflow_add-at-in-loop-i : goal.overflow_add-at-in-loop-i
-overflow_add-at-in-loop-i c = omega (arith, room c.before.before.before.before.before.before)
+overflow_add-at-in-loop-i c =
+    let c_back3 = c.before.before.before in
+    omega (arith, room c_back3.before.before.before)
 
 pub overflow_step-i : goal.overflow_step-i
 overflow_step-i c = omega arith

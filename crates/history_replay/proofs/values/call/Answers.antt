@@ -85,5 +85,6 @@ returns-then-operation-eq-ASKING c =
 
 pub returns : goal.returns
 returns c =
+    let c_back3 = c.before.before.before in
     let a = c.args in
-    rw (call_look a.lent.now a.r.now (other c.before.before.before.before.before a.lent.now)) c.looked.ensures
+    rw (call_look a.lent.now a.r.now (other c_back3.before.before a.lent.now)) c.looked.ensures

@@ -25,7 +25,9 @@ step1 c =
 
 abbrev step2 : After-put_reply → Writing 81
 step2 c =
-    packed (lend (step1 c.before.before.before.before).begun _ _ 81 c.put_reply.ensures c.put_reply.auto.out (omega arith) (omega arith))
+    let c_back3 = c.before.before.before in
+    packed (lend (step1 c_back3.before).begun _ _ 81 c.put_reply.ensures c.put_reply.auto.out
+    (omega arith) (omega arith))
 
 pub returns : goal.returns
 returns c = done (step2 c.before.before.before).begun (omega arith)

@@ -26,8 +26,9 @@ step1 c =
 
 abbrev step2 : After-put_number → Writing 58
 step2 c =
+    let c_back3 = c.before.before.before in
     packed
-    (lend_sized (step1 c.before.before.before.before).begun _ (λ w. be w c.args.count) 58
+    (lend_sized (step1 c_back3.before).begun _ (λ w. be w c.args.count) 58
     c.put_number.ensures c.put_number.auto.out
     (omega arith) (omega arith))
 

@@ -43,27 +43,32 @@ step1 c =
 
 abbrev step2 : After-put_number-2 → Writing 18
 step2 c =
-    packed (lend_sized (step1 c.before.before.before.before).begun _ (λ w. be w c.args.t.kept) 18
+    let c_back3 = c.before.before.before in
+    packed (lend_sized (step1 c_back3.before).begun _ (λ w. be w c.args.t.kept) 18
     c.put_number-2.ensures c.put_number-2.auto.out (omega arith) (omega arith))
 
 abbrev step3 : After-put_number-3 → Writing 26
 step3 c =
-    packed (lend_sized (step2 c.before.before.before.before).begun _ (λ w. be w c.args.t.copies) 26
+    let c_back3 = c.before.before.before in
+    packed (lend_sized (step2 c_back3.before).begun _ (λ w. be w c.args.t.copies) 26
     c.put_number-3.ensures c.put_number-3.auto.out (omega arith) (omega arith))
 
 abbrev step4 : After-put_number-4 → Writing 34
 step4 c =
-    packed (lend_sized (step3 c.before.before.before.before).begun _ (λ w. be w c.args.t.loose) 34
+    let c_back3 = c.before.before.before in
+    packed (lend_sized (step3 c_back3.before).begun _ (λ w. be w c.args.t.loose) 34
     c.put_number-4.ensures c.put_number-4.auto.out (omega arith) (omega arith))
 
 abbrev step5 : After-put_number-5 → Writing 42
 step5 c =
-    packed (lend_sized (step4 c.before.before.before.before).begun _ (λ w. be w c.args.t.damaged) 42
+    let c_back3 = c.before.before.before in
+    packed (lend_sized (step4 c_back3.before).begun _ (λ w. be w c.args.t.damaged) 42
     c.put_number-5.ensures c.put_number-5.auto.out (omega arith) (omega arith))
 
 abbrev step6 : After-put_number-6 → Writing 50
 step6 c =
-    packed (lend_sized (step5 c.before.before.before.before).begun _ (λ w. be w c.args.t.late) 50
+    let c_back3 = c.before.before.before in
+    packed (lend_sized (step5 c_back3.before).begun _ (λ w. be w c.args.t.late) 50
     c.put_number-6.ensures c.put_number-6.auto.out (omega arith) (omega arith))
 
 pub returns : goal.returns

@@ -32,8 +32,9 @@ step1 c =
 
 abbrev step2 : After-put_bytes → Writing 31
 step2 c =
+    let c_back3 = c.before.before.before in
     packed
-    (lend_sized (step1 c.before.before.before.before.before).begun _
+    (lend_sized (step1 c_back3.before.before).begun _
     (λ w. resized w c.args.sent.bytes) 31 c.put_bytes.ensures
     c.put_bytes.auto.out
     (omega arith) (omega arith))

@@ -39,8 +39,9 @@ copied c =
 
 pub returns-in-Done : goal.returns-in-Done
 returns-in-Done c =
+    let c_back3 = c.before.before.before in
     let said : Outcome → Bool = λ r. says c.args.last.now (cut_block_result r c.cut_block-answer.new.block) in
-    c.equal.ensures ∙ ap said (sym c.in-Done.is) ∙ copied c.before.before.before.before.before
+    c.equal.ensures ∙ ap said (sym c.in-Done.is) ∙ copied c_back3.before.before
 
 pub returns-in-Refused : goal.returns-in-Refused
 returns-in-Refused c =

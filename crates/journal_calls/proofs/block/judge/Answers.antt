@@ -35,12 +35,14 @@ returns-then-sound-ne0 c =
 
 pub returns-then-is_blank : goal.returns-then-is_blank
 returns-then-is_blank c =
+    let c_back3 = c.before.before.before in
     let a = c.args in
-    judged.other_blank a.last.now a.rows a.block.now (none c.before.before.before.before.before) (sym c.sound.ensures
+    judged.other_blank a.last.now a.rows a.block.now (none c_back3.before.before) (sym c.sound.ensures
     ∙ c.if-sound-ne0.false) (sym c.is_blank.ensures ∙ c.if-is_blank.true)
 
 pub returns : goal.returns
 returns c =
+    let c_back3 = c.before.before.before in
     let a = c.args in
-    judged.torn a.last.now a.rows a.block.now (none c.before.before.before.before.before) (sym c.sound.ensures
+    judged.torn a.last.now a.rows a.block.now (none c_back3.before.before) (sym c.sound.ensures
     ∙ c.if-sound-ne0.false) (sym c.is_blank.ensures ∙ c.if-is_blank.false)

@@ -45,21 +45,30 @@ left-count s = rows-count s.args.moments.now s.args.left.now
 inside : (c : In-loop-i)
     → (c.loop-i.i < length c.args.times.now) × (c.loop-i.i < length c.args.moments.now)
 inside c =
-    let v = c.loop-i.invariant in
-    (omega (arith, v.least, new-count c.before.before.before.before.before.before.before, left-count c.before.before.before.before.before.before.before), omega (arith, v.least, new-count c.before.before.before.before.before.before.before, left-count c.before.before.before.before.before.before.before))
+    let c_back3 = c.before.before.before in
+    let c_back6 = c_back3.before.before.before in
+    let v = c.loop-i.invariant in (
+      omega (arith, v.least, new-count c_back6.before, left-count c_back6.before),
+      omega
+          (arith, v.least, new-count c_back6.before, left-count c_back6.before),
+    )
 
 pub loop-i-init : goal.loop-i-init
 loop-i-init c =
+    let c_back3 = c.before.before.before in
     record {
       bounded = omega arith;
-      least = c.least-most.ensures ∙ ap₂ min (sym (new-count c.before.before.before.before.before.before)) (sym (left-count c.before.before.before.before.before.before));
-      rest = zero-add (agreeing (new c.before.before.before.before.before.before) (left c.before.before.before.before.before.before));
+      least = c.least-most.ensures ∙ ap₂ min (sym (new-count c_back3.before.before.before))
+          (sym (left-count c_back3.before.before.before));
+      rest = zero-add (agreeing (new c_back3.before.before.before)
+          (left c_back3.before.before.before));
     }
 
 pub same-requires : goal.same-requires
 same-requires c =
+    let c_back3 = c.before.before.before in
     let at = row_length * c.loop-i.i in
-    let h = inside c.before.before.before.before.before in (
+    let h = inside c_back3.before.before in (
       ap length (part-ends at row_length c.args.rows.now) ∙ part_length at row_length c.args.rows.now
           (omega (arith, c.requires.0, h.0)),
       ap length (part-ends at row_length c.args.left.now) ∙ part_length at row_length c.args.left.now
@@ -68,45 +77,71 @@ same-requires c =
 
 -- what the comparison told of row i
 told : (c : After-same)
-    → c.same.result ≡ same_row (get_or (new c.before.before.before.before.before.before.before.before.before.before.before.before) c.loop-i.i no_row) (get_or (left
-    c.before.before.before.before.before.before.before.before.before.before.before.before) c.loop-i.i no_row)
+    → (
+    let c_back3 = c.before.before.before in
+    let c_back6 = c_back3.before.before.before in
+    let c_back9 = c_back6.before.before.before in
+    c.same.result ≡ same_row (get_or (new c_back9.before.before.before) c.loop-i.i no_row) (get_or (left
+    c_back9.before.before.before) c.loop-i.i no_row))
 told c =
+    let c_back3 = c.before.before.before in
     let a = c.args in
     let i = c.loop-i.i in
     let at = row_length * i in
     c.same.ensures
     ∙ ap₂ (λ (x y : List ℕ). same_row (row_given (get_or a.times.now i 0) x) (row_given (get_or a.moments.now i 0) y))
     (part-ends at row_length a.rows.now) (part-ends at row_length a.left.now)
-    ∙ sym (ap₂ same_row (row_get a.times.now a.rows.now i (inside c.before.before.before.before.before).0) (row_get a.moments.now a.left.now i (inside c.before.before.before.before.before).1))
+    ∙ sym (ap₂ same_row (row_get a.times.now a.rows.now i (inside c_back3.before.before).0)
+    (row_get a.moments.now a.left.now i (inside c_back3.before.before).1))
 
 pub returns-then-not-same : goal.returns-then-not-same
 returns-then-not-same c =
-    let h = inside c.before.before.before.before.before.before.before in (
-      sym (agree_stop (new c.before.before.before.before.before.before.before.before.before.before.before.before.before.before) (left c.before.before.before.before.before.before.before.before.before.before.before.before.before.before) c.loop-i.i (omega (arith, new-count c.before.before.before.before.before.before.before.before.before.before.before.before.before.before, h.0)) (omega
-          (arith, left-count c.before.before.before.before.before.before.before.before.before.before.before.before.before.before, h.1)) (sym (told c.before.before) ∙ c.if-not-same.true))
+    let c_back3 = c.before.before.before in
+    let c_back6 = c_back3.before.before.before in
+    let c_back9 = c_back6.before.before.before in
+    let c_back12 = c_back9.before.before.before in
+    let h = inside c_back6.before in (
+      sym (agree_stop (new c_back12.before.before) (left c_back12.before.before) c.loop-i.i
+          (omega (arith, new-count c_back12.before.before, h.0)) (omega
+          (arith, left-count c_back12.before.before, h.1)) (sym (told c.before.before) ∙ c.if-not-same.true))
           ∙ c.loop-i.invariant.rest,
       omega (arith, h.1),
     )
 
 pub loop-i-preserved : goal.loop-i-preserved
 loop-i-preserved c =
-    let h = inside c.before.before.before.before.before.before.before in
+    let c_back3 = c.before.before.before in
+    let c_back6 = c_back3.before.before.before in
+    let c_back9 = c_back6.before.before.before in
+    let c_back12 = c_back9.before.before.before in
+    let h = inside c_back6.before in
     record {
       bounded = omega arith;
       least = c.loop-i.invariant.least;
       rest =
-          sym (agree_next (new c.before.before.before.before.before.before.before.before.before.before.before.before.before.before) (left c.before.before.before.before.before.before.before.before.before.before.before.before.before.before) c.loop-i.i (omega (arith, new-count c.before.before.before.before.before.before.before.before.before.before.before.before.before.before, h.0)) (omega
-          (arith, left-count c.before.before.before.before.before.before.before.before.before.before.before.before.before.before, h.1)) (sym (told c.before.before) ∙ c.if-not-same.false))
+          sym (agree_next (new c_back12.before.before) (left c_back12.before.before) c.loop-i.i
+          (omega (arith, new-count c_back12.before.before, h.0)) (omega
+          (arith, left-count c_back12.before.before, h.1)) (sym (told c.before.before) ∙ c.if-not-same.false))
           ∙ c.loop-i.invariant.rest;
     }
 
 pub returns : goal.returns
 returns c =
+    let c_back3 = c.before.before.before in
+    let c_back6 = c_back3.before.before.before in
     let v = c.loop-i.invariant in
     let i = c.loop-i.i in
     let most : c.least-most.result ≡ i = omega arith in
-    let none = agree_end (new c.before.before.before.before.before.before.before.before) (left c.before.before.before.before.before.before.before.before) i (omega (arith, v.least)) in
-    (omega (arith, v.rest, none), omega (arith, v.least, left-count c.before.before.before.before.before.before.before.before))
+    let none = agree_end (new c_back6.before.before)
+    (left c_back6.before.before) i (omega (arith, v.least)) in (
+      omega (arith, v.rest, none),
+      omega (
+        arith,
+        v.least,
+        left-count
+            c_back6.before.before,
+      ),
+    )
 
 pub overflow_mul-at : goal.overflow_mul-at
 overflow_mul-at c = omega (arith, (inside c.before).0)
@@ -133,7 +168,9 @@ pub offset_bounds-moments-i : goal.offset_bounds-moments-i
 offset_bounds-moments-i c = omega (arith, (inside c.before.before.before).0)
 
 pub bounds-moments-i : goal.bounds-moments-i
-bounds-moments-i c = (inside c.before.before.before.before).1
+bounds-moments-i c =
+    let c_back3 = c.before.before.before in
+    (inside c_back3.before).1
 
 pub slice_bounds-same-count-in-loop-i : goal.slice_bounds-same-count-in-loop-i
 slice_bounds-same-count-in-loop-i c = omega arith
@@ -142,10 +179,15 @@ pub slice_bounds-same-start-in-loop-i : goal.slice_bounds-same-start-in-loop-i
 slice_bounds-same-start-in-loop-i c = omega arith
 
 pub slice_bounds-same-end-in-loop-i : goal.slice_bounds-same-end-in-loop-i
-slice_bounds-same-end-in-loop-i c = omega (arith, (inside c.before.before.before.before).1)
+slice_bounds-same-end-in-loop-i c =
+    let c_back3 = c.before.before.before in
+    omega (arith, (inside c_back3.before).1)
 
 pub overflow_step-i : goal.overflow_step-i
-overflow_step-i c = omega (arith, (inside c.before.before.before.before.before.before.before).0)
+overflow_step-i c =
+    let c_back3 = c.before.before.before in
+    let c_back6 = c_back3.before.before.before in
+    omega (arith, (inside c_back6.before).0)
 
 pub loop-i-smaller : goal.loop-i-smaller
 loop-i-smaller c = omega arith

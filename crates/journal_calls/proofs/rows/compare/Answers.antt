@@ -40,9 +40,11 @@ sized c = sym c.are_records.ensures ∙ c.if-not-are_records.false
 
 pub returns-then-not-are_records-2 : goal.returns-then-not-are_records-2
 returns-then-not-are_records-2 c =
+    let c_back3 = c.before.before.before in
     let a = c.args in
     ap (beside a.agreed.now a.going.now) c.number-then-not-are_records-2.ensures
-    ∙ compare_left a.times.now a.rows.now a.moments.now a.left.now a.agreed.now a.going.now (sized c.before.before.before.before)
+    ∙ compare_left a.times.now a.rows.now a.moments.now a.left.now a.agreed.now a.going.now
+    (sized c_back3.before)
     (sym c.are_records-2.ensures ∙ c.if-not-are_records-2.true)
 
 left-sized : (c : Else-not-are_records-2)
@@ -51,6 +53,7 @@ left-sized c = sym c.are_records-2.ensures ∙ c.if-not-are_records-2.false
 
 pub returns : goal.returns
 returns c =
+    let c_back3 = c.before.before.before in
     let a = c.args in
     let new : List Row = rows_given a.times.now a.rows.now in
     let left : List Row = rows_given a.moments.now a.left.now in
@@ -62,7 +65,8 @@ returns c =
     ∙ ap (λ (n : ℕ). cond (leb (length a.times.now) n) 0 (length a.moments.now - n)) c.agree-same.ensures.0
     ∙ ap₂ (λ (n m : ℕ). cond (leb n (agreeing new left)) 0 (m - agreeing new left)) (sym nc) (sym lc) in
     ap₂ (λ (n m : ℕ). beside n m 0) c.agree-same.ensures.0 (going_is ∙ going-count new left)
-    ∙ compare_done a.times.now a.rows.now a.moments.now a.left.now a.agreed.now a.going.now (sized c.before.before.before.before.before) (left-sized c.before.before.before)
+    ∙ compare_done a.times.now a.rows.now a.moments.now a.left.now a.agreed.now a.going.now
+    (sized c_back3.before.before) (left-sized c.before.before.before)
 
 pub agree-same-requires : goal.agree-same-requires
 agree-same-requires c = (eqb-true _ _ (sized c.before.before.before), eqb-true _ _ (left-sized c.before))

@@ -44,6 +44,7 @@ returns-then-not-same_loose c =
 
 pub returns : goal.returns
 returns c =
+    let c_back3 = c.before.before.before in
     let a = c.args in
     c.equal.ensures
     ∙ ap (λ (n : ℕ). equal (part 2 (2 + n - 2) a.row.now) (part 2 (2 + n - 2) a.other.now))
@@ -52,4 +53,4 @@ returns c =
     c.requires.1
     c.byte_at-len.ensures c.if-time-moment.false (sym c.byte_at.ensures
     ∙ c.if-byte_at-len.false ∙ c.byte_at-len.ensures)
-    (sym (told c.before.before.before.before.before.before) ∙ c.if-not-same_loose.false)
+    (sym (told c_back3.before.before.before) ∙ c.if-not-same_loose.false)

@@ -49,24 +49,33 @@ beside l n = record { number = n; numbers = l }
 pub returns-then-not-is_run : goal.returns-then-not-is_run
 returns-then-not-is_run c =
     ap (beside (numbers c.before.before.before)) c.number.ensures
-    ∙ feed-not (numbers c.before.before.before) (piece c.before.before.before) (sym (ap is_run (said c.before.before.before)) ∙ sym c.is_run.ensures ∙ not-true _
+    ∙ feed-not (numbers c.before.before.before) (piece c.before.before.before)
+    (sym (ap is_run (said c.before.before.before)) ∙ sym c.is_run.ensures ∙ not-true _
     (ap not c.if-not-is_run.true))
 
 pub returns-then-piece-ne0 : goal.returns-then-piece-ne0
 returns-then-piece-ne0 c =
-    ap (beside (numbers c.before.before.before.before)) c.number-then-piece-ne0.ensures ∙ feed_odd (numbers c.before.before.before.before) (piece c.before.before.before.before) (yes_at c.before.before.before) c.if-piece-ne0.true
+    let c_back3 = c.before.before.before in
+    ap (beside (numbers c_back3.before)) c.number-then-piece-ne0.ensures
+    ∙ feed_odd (numbers c_back3.before) (piece c_back3.before) (yes_at c.before.before.before) c.if-piece-ne0.true
 
 pub returns-then-passed-piece-gt-MAX_BLOCKS : goal.returns-then-passed-piece-gt-MAX_BLOCKS
 returns-then-passed-piece-gt-MAX_BLOCKS c =
-    ap (beside (numbers c.before.before.before.before.before)) c.number-then-passed-piece-gt-MAX_BLOCKS.ensures
-    ∙ feed_many (numbers c.before.before.before.before.before) (piece c.before.before.before.before.before) (yes_at c.before.before.before.before) c.if-piece-ne0.false (omega (arith, c.if-passed-piece-gt-MAX_BLOCKS.true, blocks-said c.before.before.before.before.before))
+    let c_back3 = c.before.before.before in
+    ap (beside (numbers c_back3.before.before)) c.number-then-passed-piece-gt-MAX_BLOCKS.ensures
+    ∙ feed_many (numbers c_back3.before.before) (piece c_back3.before.before) (yes_at c_back3.before)
+    c.if-piece-ne0.false (omega (arith, c.if-passed-piece-gt-MAX_BLOCKS.true, blocks-said c_back3.before.before))
 
 pub returns : goal.returns
 returns c =
+    let c_back3 = c.before.before.before in
+    let c_back6 = c_back3.before.before.before in
     ap (λ (l : List ℕ). beside l 0) c.store.ensures
-    ∙ feed-done (numbers c.before.before.before.before.before.before.before) (piece c.before.before.before.before.before.before.before) (yes_at c.before.before.before.before.before.before) c.if-piece-ne0.false (omega (arith, c.if-passed-piece-gt-MAX_BLOCKS.false, blocks-said c.before.before.before.before.before.before.before)) (run_of
+    ∙ feed-done (numbers c_back6.before) (piece c_back6.before) (yes_at c_back3.before.before.before)
+    c.if-piece-ne0.false (omega (arith, c.if-passed-piece-gt-MAX_BLOCKS.false, blocks-said c_back6.before)) (run_of
     c.run_blocks-next.result)
-    (c.run_blocks-next.ensures ∙ ap (λ (r : Run). run_blocks r (blocks_in (piece c.before.before.before.before.before.before.before))) (said c.before.before.before.before.before.before.before))
+    (c.run_blocks-next.ensures ∙ ap (λ (r : Run). run_blocks r (blocks_in (piece
+    c_back6.before))) (said c_back6.before))
 
 pub overflow_add-passed : goal.overflow_add-passed
 overflow_add-passed c = omega (arith, facts c.before.before)

@@ -19,4 +19,5 @@ is_dense-requires c = c.if-blocks-gt-MAX_BLOCKS.false
 
 pub returns : goal.returns
 returns c =
-    c.is_dense.ensures ∙ run_dense (run_of c.args.r) c.if-limit-gt-MAX_BLOCKS.false c.if-limit-r.false c.if-blocks-gt-MAX_BLOCKS.false
+    c.is_dense.ensures ∙ run_dense (run_of c.args.r) c.if-limit-gt-MAX_BLOCKS.false c.if-limit-r.false
+    c.if-blocks-gt-MAX_BLOCKS.false

@@ -41,11 +41,16 @@ returns c =
     c.sound-used.result c.sound-used.ensures (sym c.number_of.ensures ∙ c.if-number_of-place.false)
 
 pub overflow_add-result : goal.overflow_add-result
-overflow_add-result c = omega (arith, facts c.before.before.before.before)
+overflow_add-result c =
+    let c_back3 = c.before.before.before in
+    omega (arith, facts c_back3.before)
 
 pub nonzero_rem-result : goal.nonzero_rem-result
-nonzero_rem-result c = omega (arith, facts c.before.before.before.before)
+nonzero_rem-result c =
+    let c_back3 = c.before.before.before in
+    omega (arith, facts c_back3.before)
 
 pub overflow_add-result-3 : goal.overflow_add-result-3
 overflow_add-result-3 c =
-    omega (arith, facts c.before.before.before.before.before.before, c.sound-used.ensures, sound_le c.args.block.now)
+    let c_back3 = c.before.before.before in
+    omega (arith, facts c_back3.before.before.before, c.sound-used.ensures, sound_le c.args.block.now)

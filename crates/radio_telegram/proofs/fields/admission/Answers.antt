@@ -16,18 +16,32 @@ shape c = record { payload = search rules; destid = search rules; txid = search 
 
 pub returns-then-t-gt-MAX_ADDRESSED_DATA : goal.returns-then-t-gt-MAX_ADDRESSED_DATA
 returns-then-t-gt-MAX_ADDRESSED_DATA c =
+    let c_back3 = c.before.before.before in
+    let c_back6 = c_back3.before.before.before in
     too_long c.args.t (omega arith) (omega arith) (omega arith)
-    (omega (arith, bytes-addressed c.args.t (shape c.before.before.before.before.before.before.before.before.before) (omega arith) (cc)))
+    (omega (
+      arith,
+      bytes-addressed c.args.t (shape c_back6.before.before.before)
+          (omega arith) (cc),
+    ))
 
 pub returns-else-t-gt-MAX_ADDRESSED_DATA : goal.returns-else-t-gt-MAX_ADDRESSED_DATA
 returns-else-t-gt-MAX_ADDRESSED_DATA c =
+    let c_back3 = c.before.before.before in
+    let c_back6 = c_back3.before.before.before in
     admitted c.args.t (omega arith) (omega arith) (omega arith)
-    (omega (arith, bytes-addressed c.args.t (shape c.before.before.before.before.before.before.before.before.before) (omega arith) (cc)))
+    (omega (
+      arith,
+      bytes-addressed c.args.t (shape c_back6.before.before.before)
+          (omega arith) (cc),
+    ))
 
 pub returns-else-t : goal.returns-else-t
 returns-else-t c =
+    let c_back3 = c.before.before.before in
+    let c_back6 = c_back3.before.before.before in
     admitted c.args.t (omega arith) (omega arith) (omega arith)
-    (omega (arith, bytes-plain c.args.t (shape c.before.before.before.before.before.before.before) (omega arith) (cc)))
+    (omega (arith, bytes-plain c.args.t (shape c_back6.before) (omega arith) (cc)))
 
 pub returns-then-t-lt1 : goal.returns-then-t-lt1
 returns-then-t-lt1 c = no_data _ (omega arith)

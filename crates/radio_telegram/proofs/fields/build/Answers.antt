@@ -29,7 +29,8 @@ returns-in-Refused c =
 
 pub returns-in-Valid : goal.returns-in-Valid
 returns-in-Valid c =
-    c.emit.ensures _ c.frame_of.ensures ∙ build_put _ _ (passed c.before.before.before.before.before.before)
+    let c_back3 = c.before.before.before in
+    c.emit.ensures _ c.frame_of.ensures ∙ build_put _ _ (passed c_back3.before.before.before)
 
 pub frame_of-requires : goal.frame_of-requires
 frame_of-requires c = buildable _ (passed c.before)

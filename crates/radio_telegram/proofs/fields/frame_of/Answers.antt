@@ -36,9 +36,10 @@ append-requires c =
 
 pub with_ids-f-requires : goal.with_ids-f-requires
 with_ids-f-requires c =
+    let c_back3 = c.before.before.before in
     omega (
       arith,
-      start_length c.before.before.before.before,
+      start_length c_back3.before,
       frame-len _ _ c.head.ensures,
       c.append.ensures.len,
       length-take c.args.t.len c.args.t.payload,
@@ -46,9 +47,10 @@ with_ids-f-requires c =
 
 pub push-requires : goal.push-requires
 push-requires c =
+    let c_back3 = c.before.before.before in
     omega (
       arith,
-      start_length c.before.before.before.before.before,
+      start_length c_back3.before.before,
       frame-len _ _ c.head.ensures,
       c.append.ensures.len,
       c.with_ids-f.ensures.len,
@@ -57,9 +59,10 @@ push-requires c =
 
 pub sealed-requires : goal.sealed-requires
 sealed-requires c =
+    let c_back3 = c.before.before.before in
     omega (
       arith,
-      start_length c.before.before.before.before.before.before,
+      start_length c_back3.before.before.before,
       frame-len _ _ c.head.ensures,
       c.append.ensures.len,
       c.with_ids-f.ensures.len,

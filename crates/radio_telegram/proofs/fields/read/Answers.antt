@@ -21,7 +21,10 @@ valid : (c : In-Valid) → Sound c.args.bytes.now
 valid c = check_facts _ (passed c)
 
 pub addressed_fields-t-requires : goal.addressed_fields-t-requires
-addressed_fields-t-requires c = (((valid c.before.before.before).inner c.if-bytes.true).0, (valid c.before.before.before).high)
+addressed_fields-t-requires c = (
+  ((valid c.before.before.before).inner c.if-bytes.true).0,
+  (valid c.before.before.before).high,
+)
 
 pub plain_fields-t-requires : goal.plain_fields-t-requires
 plain_fields-t-requires c = ((valid c.before.before.before).low, (valid c.before.before.before).high)
@@ -33,12 +36,14 @@ returns-in-Refused c =
 
 pub returns-then-bytes : goal.returns-then-bytes
 returns-then-bytes c =
-    read_valid _ _ (passed c.before.before.before.before)
+    let c_back3 = c.before.before.before in
+    read_valid _ _ (passed c_back3.before)
     (c.addressed_fields-t.ensures ∙ fields-addressed _ c.if-bytes.true)
 
 pub returns-else-bytes : goal.returns-else-bytes
 returns-else-bytes c =
-    read_valid _ _ (passed c.before.before.before.before)
+    let c_back3 = c.before.before.before in
+    read_valid _ _ (passed c_back3.before)
     (c.plain_fields-t.ensures ∙ fields-plain _ c.if-bytes.false)
 
 pub bounds-bytes-0 : goal.bounds-bytes-0

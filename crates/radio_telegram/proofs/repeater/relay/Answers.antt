@@ -41,7 +41,9 @@ returns-then-not-repeats c =
 
 pub returns : goal.returns
 returns c =
+    let c_back3 = c.before.before.before in
     let s = c.args.bytes.now in
     let sent =
-    relay_sent c.args.setting s (omega arith) (omega arith) (repeated c.before.before.before.before ∙ c.if-not-repeats.false) in
+    relay_sent c.args.setting s (omega arith) (omega arith)
+    (repeated c_back3.before ∙ c.if-not-repeats.false) in
     rw (← sent, c.put_raised.ensures, raised_length s (omega arith))

@@ -41,12 +41,33 @@ full c =
 
 pub slice_bounds-put_row-end : goal.slice_bounds-put_row-end
 slice_bounds-put_row-end c =
-    omega (arith, (front c.before.before.before.before).0, short c.before.before.before.before, full c.before.before.before.before)
+    let c_back3 = c.before.before.before in
+    omega (
+      arith,
+      (front c_back3.before).0,
+      short c_back3.before,
+      full
+          c_back3.before,
+    )
 
 pub returns : goal.returns
 returns c =
+    let c_back3 = c.before.before.before in
+    let c_back6 = c_back3.before.before.before in
     let z : c.relay_kept-n.result - 0 ≡ c.relay_kept-n.result = omega arith in
     let pre = c.requires in
-    let fits = if_fits (omega (arith, pre.0, pre.1, pre.2, (front c.before.before.before.before.before.before.before.before).0, short c.before.before.before.before.before.before.before.before)) c.put_row.ensures in
-    loosened (rw (c.row_of.ensures, c.source_of-source.ensures, z, (front c.before.before.before.before.before.before.before.before).1) at fits)
-    (omega (arith, pre.0, pre.1, short c.before.before.before.before.before.before.before.before))
+    let fits = if_fits (omega (
+      arith,
+      pre.0,
+      pre.1,
+      pre.2,
+      (front c_back6.before.before).0,
+      short c_back6.before.before,
+    )) c.put_row.ensures in
+    loosened (rw (
+      c.row_of.ensures,
+      c.source_of-source.ensures,
+      z,
+      (front c_back6.before.before).1,
+    ) at fits)
+    (omega (arith, pre.0, pre.1, short c_back6.before.before))

@@ -137,7 +137,8 @@ loop-out-preserved c =
     let f = c.if-not-ok.false in
     let p = parsed s.input.now at c.parse-l.ensures in
     let heard = c.parse-l.new.bytes in
-    let v = view_in (columns c.loop-out.times c.loop-out.lens c.loop-out.entries c.loop-out.copies) c.loop-out.summary in
+    let v = view_in (columns c.loop-out.times c.loop-out.lens c.loop-out.entries c.loop-out.copies)
+    c.loop-out.summary in
     let x = reception_at r.time (take r.len heard) in
     let small : r.time < 2 ^ 64 = search rules in
     let line : take (at + r.used - (2 * r.len + 2) - at) (drop at s.input.now) ≡ decimal_text r.time =

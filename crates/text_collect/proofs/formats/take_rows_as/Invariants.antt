@@ -12,9 +12,11 @@ use Rattle.text_collect.proofs.formats.take_rows_as.Given as goal
 abbrev pub invariant-loop-out : goal.invariant-loop-out
 invariant-loop-out l =
     Taken (collect_in l.format)
-    (RoomyIn l.format (running_at l.setting (view_in (columns l.initial.times l.initial.lens l.initial.entries l.initial.copies) l.initial.summary)) l.initial.out l.initial.moments l.initial.closed)
+    (RoomyIn l.format (running_at l.setting (view_in (columns l.initial.times l.initial.lens l.initial.entries
+    l.initial.copies) l.initial.summary)) l.initial.out l.initial.moments l.initial.closed)
     (is_asked l.initial.closed) l.fit l.setting l.input l.most
-    (view_in (columns l.initial.times l.initial.lens l.initial.entries l.initial.copies) l.initial.summary) (columns l.initial.times l.initial.lens l.initial.entries l.initial.copies)
+    (view_in (columns l.initial.times l.initial.lens l.initial.entries l.initial.copies) l.initial.summary)
+    (columns l.initial.times l.initial.lens l.initial.entries l.initial.copies)
     l.initial.out l.initial.moments l.initial.rows l.initial.closed
     (view_in (columns l.times l.lens l.entries l.copies) l.summary) (columns l.times l.lens l.entries l.copies)
     l.out l.moments l.rows l.closed l.at l.to l.n l.k l.left

@@ -29,25 +29,40 @@ room : (c : Else-not-has_capacity) → c.args.at + 17 ≤ length c.args.out.now
 room c = leb-true _ _ (fits c)
 
 pub write-requires : goal.write-requires
-write-requires c = omega (arith, room c.before.before.before.before)
+write-requires c =
+    let c_back3 = c.before.before.before in
+    omega (arith, room c_back3.before)
 
 pub write-requires-in-Csv : goal.write-requires-in-Csv
-write-requires-in-Csv c = omega (arith, room c.before.before.before.before)
+write-requires-in-Csv c =
+    let c_back3 = c.before.before.before in
+    omega (arith, room c_back3.before)
 
 pub write-requires-in-Json : goal.write-requires-in-Json
-write-requires-in-Json c = omega (arith, room c.before.before.before.before)
+write-requires-in-Json c =
+    let c_back3 = c.before.before.before in
+    omega (arith, room c_back3.before)
 
 pub returns-in-Text : goal.returns-in-Text
 unfolding bad_in
 returns-in-Text c =
-    rw c.in-Text.is (fitting (fits c.before.before.before.before.before.before.before.before) (loosened c.write.ensures (omega arith)))
+    let c_back3 = c.before.before.before in
+    let c_back6 = c_back3.before.before.before in
+    rw c.in-Text.is (fitting (fits c_back6.before.before)
+    (loosened c.write.ensures (omega arith)))
 
 pub returns-in-Csv : goal.returns-in-Csv
 unfolding bad_in
 returns-in-Csv c =
-    rw c.in-Csv.is (fitting (fits c.before.before.before.before.before.before.before.before) (loosened c.write-in-Csv.ensures (omega arith)))
+    let c_back3 = c.before.before.before in
+    let c_back6 = c_back3.before.before.before in
+    rw c.in-Csv.is (fitting (fits c_back6.before.before)
+    (loosened c.write-in-Csv.ensures (omega arith)))
 
 pub returns-in-Json : goal.returns-in-Json
 unfolding bad_in
 returns-in-Json c =
-    rw c.in-Json.is (fitting (fits c.before.before.before.before.before.before.before.before) (loosened c.write-in-Json.ensures (omega arith)))
+    let c_back3 = c.before.before.before in
+    let c_back6 = c_back3.before.before.before in
+    rw c.in-Json.is (fitting (fits c_back6.before.before)
+    (loosened c.write-in-Json.ensures (omega arith)))

@@ -29,7 +29,9 @@ room : (c : Else-not-has_capacity) → c.args.at + 50 ≤ length c.args.out.now
 room c = leb-true _ _ (fits c)
 
 pub write-requires : goal.write-requires
-write-requires c = omega (arith, room c.before.before.before.before)
+write-requires c =
+    let c_back3 = c.before.before.before in
+    omega (arith, room c_back3.before)
 
 pub returns-in-Text : goal.returns-in-Text
 unfolding heading_in
@@ -40,7 +42,10 @@ returns-in-Text c =
 pub returns-in-Csv : goal.returns-in-Csv
 unfolding heading_in
 returns-in-Csv c =
-    rw c.in-Csv.is (fitting (fits c.before.before.before.before.before.before.before.before) (loosened c.write.ensures (omega arith)))
+    let c_back3 = c.before.before.before in
+    let c_back6 = c_back3.before.before.before in
+    rw c.in-Csv.is (fitting (fits c_back6.before.before)
+    (loosened c.write.ensures (omega arith)))
 
 pub returns-in-Json : goal.returns-in-Json
 unfolding heading_in

@@ -48,14 +48,19 @@ write_json-requires c = room c.before.before.before
 pub returns-in-Text : goal.returns-in-Text
 unfolding row_text_in
 returns-in-Text c =
-    rw c.in-Text.is (fitting (fits c.before.before.before.before.before.before) (loosened c.write_row.ensures (omega arith)))
+    let c_back3 = c.before.before.before in
+    rw c.in-Text.is (fitting (fits c_back3.before.before.before)
+    (loosened c.write_row.ensures (omega arith)))
 
 pub returns-in-Csv : goal.returns-in-Csv
 unfolding row_text_in
 returns-in-Csv c =
-    rw c.in-Csv.is (fitting (fits c.before.before.before.before.before.before) (loosened c.write_csv.ensures (omega arith)))
+    let c_back3 = c.before.before.before in
+    rw c.in-Csv.is (fitting (fits c_back3.before.before.before)
+    (loosened c.write_csv.ensures (omega arith)))
 
 pub returns-in-Json : goal.returns-in-Json
 unfolding row_text_in
 returns-in-Json c =
-    rw c.in-Json.is (fitting (fits c.before.before.before.before.before.before) c.write_json.ensures)
+    let c_back3 = c.before.before.before in
+    rw c.in-Json.is (fitting (fits c_back3.before.before.before) c.write_json.ensures)

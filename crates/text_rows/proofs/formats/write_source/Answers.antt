@@ -18,16 +18,39 @@ identity : (c : After-slice_known-1) → length c.args.source.txid ≡ 4
 identity c = search rules
 
 pub write_hex_after-a-requires : goal.write_hex_after-a-requires
-write_hex_after-a-requires c = omega (arith, identity c.before.before.before.before.before.before.before)
+write_hex_after-a-requires c =
+    let c_back3 = c.before.before.before in
+    let c_back6 = c_back3.before.before.before in
+    omega (arith, identity c_back6.before)
 
 pub write_hex_after-b-requires : goal.write_hex_after-b-requires
-write_hex_after-b-requires c = omega (arith, identity c.before.before.before.before.before.before.before.before.before.before.before.before)
+write_hex_after-b-requires c =
+    let c_back3 = c.before.before.before in
+    let c_back6 = c_back3.before.before.before in
+    let c_back9 = c_back6.before.before.before in
+    omega (
+      arith,
+      identity
+          c_back9.before.before.before,
+    )
 
 pub write_count-requires : goal.write_count-requires
-write_count-requires c = omega (arith, identity c.before.before.before.before.before.before.before.before.before.before.before.before.before.before.before.before.before)
+write_count-requires c =
+    let c_back3 = c.before.before.before in
+    let c_back6 = c_back3.before.before.before in
+    let c_back9 = c_back6.before.before.before in
+    let c_back12 = c_back9.before.before.before in
+    let c_back15 = c_back12.before.before.before in
+    omega (arith, identity c_back15.before.before)
 
 pub returns : goal.returns
 unfolding source_after
 returns c =
+    let c_back3 = c.before.before.before in
+    let c_back6 = c_back3.before.before.before in
+    let c_back9 = c_back6.before.before.before in
+    let c_back12 = c_back9.before.before.before in
+    let c_back15 = c_back12.before.before.before in
+    let c_back18 = c_back15.before.before.before in
     loosened (then (then c.write_hex_after-a.ensures c.write_hex_after-b.ensures) c.write_count.ensures)
-    (omega (arith, identity c.before.before.before.before.before.before.before.before.before.before.before.before.before.before.before.before.before.before.before.before))
+    (omega (arith, identity c_back18.before.before))
