@@ -30,7 +30,7 @@ fn records<R: Read, W: Write>(input: &mut R, to: &mut W, most: u64) -> io::Resul
 }
 
 // A record; `more` is false after the last one.
-#[derive(Drop)]
+#[derive(Clone, Copy)]
 struct Input {
     more: bool,
     bytes: [u8; test_io::LONG],
