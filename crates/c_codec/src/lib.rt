@@ -1,4 +1,6 @@
 // The codec on plain numbers and bytes, as other languages call it: each call returns a number, and writes values into lent memory.
+#![tactic(auto)]
+
 ghost use Rattle.std.specs.Prelude.{◌≡◌, ◌<◌, length};
 ghost use Rattle.block_layout.specs.BigEndian.{be};
 ghost use Rattle.radio_telegram.specs.Fields.{max_data};

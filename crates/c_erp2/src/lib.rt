@@ -1,4 +1,6 @@
 // ERP2 telegrams on plain numbers and bytes, as other languages call them.
+#![tactic(auto)]
+
 ghost use Rattle.std.specs.Prelude.{◌≡◌, ◌<◌, length};
 ghost use Rattle.c_erp2.specs.Fields.{fields_head_length, fields_length, head_bytes, fields_bytes, telegram_in};
 ghost use Rattle.c_erp2.specs.Calls.{read_call, build_call};

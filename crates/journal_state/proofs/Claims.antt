@@ -1,8 +1,8 @@
 -- The claims of specs/Claims.
 use Prim.Native.Nat.{ℕ}
 use native.Mathlib.Omega.{arith}
-use mathlib.Core.Path.{◌≡◌, refl, sym, ap, ap₂, ◌∙◌}
-use mathlib.Core.Bool.{true, cond, ◌&&◌}
+use mathlib.Core.Path.{◌≡◌, ap, ap₂, ◌∙◌}
+use mathlib.Core.Bool.{true, cond}
 use mathlib.Core.List.{List}
 use lib.Dec.{eqb}
 use lib.ListN.{length, take}
@@ -10,7 +10,7 @@ use lib.Seq.{take_all}
 use Rattle.base_lists.specs.Lists.{equal}
 use Rattle.base_lists.proofs.Choice.{both}
 use Rattle.base_lists.proofs.Equal.{equal_eq, equal-refl}
-use Rattle.journal_state.specs.State.{Kept, old_length, state_length, version_of, state_bytes, read_state}
+use Rattle.journal_state.specs.State.{Kept, old_length, version_of, state_bytes, read_state}
 use Rattle.journal_state.specs.Lawful.{is_lawful_state, is_plain, accepts_state}
 use Rattle.journal_state.specs.Claims.{IsKept, StateRead, StateWritten}
 use Rattle.journal_state.proofs.Read.{state-length, read_back}

@@ -3,7 +3,7 @@
 --     header_is                the first block, with the CRC of the log's bytes
 use Prim.Native.Nat.{ℕ}
 use mathlib.Core.Path.{◌≡◌, refl, ap}
-use mathlib.Core.List.{List, []}
+use mathlib.Core.List.{[]}
 use Rattle.base_crc8.specs.Crc8.{crc_of}
 use Rattle.journal_state.specs.State.{Kept, kept, archive_field, log_field, out_field, state_header}
 use Rattle.journal_state.specs.Private.{header_with}

@@ -17,7 +17,7 @@ use Rattle.base_lists.specs.Lists.{equal}
 use Rattle.base_lists.proofs.Tests.{by_test}
 use Rattle.base_refusal.specs.Number.{number_of}
 use Rattle.base_refusal.specs.declared.Refusal.TheVariants.{NotAccepted, Size}
-use Rattle.base_buffers.specs.Buffer.{part, resized}
+use Rattle.base_buffers.specs.Buffer.{resized}
 use Rattle.base_buffers.proofs.Buffer.{resized-length}
 use Rattle.base_buffers.proofs.Segments.{part_length}
 use Rattle.block_layout.specs.Block.{block_length}

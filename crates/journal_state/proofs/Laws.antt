@@ -7,13 +7,12 @@
 --     held, counts-refused, counts-restored, rows-counted, rows_fit       the rows that an image counts
 --     law-image, law-archive, law-log, law-out                 all of them; file-alone and so on: each looks at its
 -- part alone
-use Prim.Native.Nat.{ℕ, ◌+◌, ◌-◌, ◌*◌, ◌/◌, ◌%◌, ◌^◌, ◌≤◌, ◌<◌, min}
-use native.Mathlib.Omega.{arith}
-use mathlib.Core.Path.{◌≡◌, refl, sym, ap, ap₂, ◌∙◌}
-use mathlib.Core.Bool.{Bool, true, false, cond, ◌&&◌, false≢true}
+use Prim.Native.Nat.{ℕ, ◌+◌, ◌-◌, ◌/◌, ◌%◌, ◌≤◌, ◌<◌, min}
+use mathlib.Core.Path.{◌≡◌, refl, sym, ap, ◌∙◌}
+use mathlib.Core.Bool.{true, false, ◌&&◌}
 use mathlib.Core.List.{List, [], ◌∷◌}
 use lib.Dec.{leb, eqb}
-use lib.ListN.{length, get_or, drop}
+use lib.ListN.{length, drop}
 use borrow.Author.Tests.{eqb-true, eq-eqb, ne_eqb, le-leb, lt-leb}
 use Rattle.base_lists.specs.Lists.{all, pairwise}
 use Rattle.base_lists.proofs.Choice.{both}
@@ -34,7 +33,7 @@ use Rattle.collector_state.specs.Collector.{view_of}
 use Rattle.collector_checkpoint.specs.declared.Restored.{Restored}
 use Rattle.base_refusal.specs.declared.Outcome.TheVariants.{Done, Refused}
 use Rattle.collector_checkpoint.specs.Checkpoint.{restore_result, Restores}
-use Rattle.archive_model.specs.Row.{block_number, row_count, is_sound, is_blank}
+use Rattle.archive_model.specs.Row.{block_number, row_count, is_blank}
 use Rattle.archive_model.specs.Buffer.{max_rows}
 use Rattle.archive_file.specs.Archive.{sound_count}
 use Rattle.journal_calls.proofs.Judged.{sound_none, sound_some}

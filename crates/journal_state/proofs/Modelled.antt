@@ -1,9 +1,9 @@
 -- A lawful state is one of the model of the disk.
-use Prim.Native.Nat.{ℕ, ◌+◌, ◌-◌, ◌*◌, ◌/◌, ◌%◌, ◌≤◌, ◌<◌}
+use Prim.Native.Nat.{ℕ, ◌+◌, ◌-◌, ◌/◌, ◌%◌, ◌≤◌, ◌<◌}
 use native.Mathlib.Nat.{mod-eq_of_lt}
 use native.Mathlib.Omega.{arith}
 use mathlib.Core.Path.{◌≡◌, refl, sym, ap, ap₂, ◌∙◌}
-use mathlib.Core.Bool.{Bool, true, false, cond, ◌&&◌}
+use mathlib.Core.Bool.{true, ◌&&◌}
 use mathlib.Core.List.{List, [], ◌∷◌}
 use lib.Dec.{leb, eqb}
 use lib.ListN.{length, drop, replicate}
@@ -13,15 +13,15 @@ use Rattle.base_lists.proofs.Tests.{by_test}
 use Rattle.block_layout.specs.Block.{cells_per_block, block_length}
 use Rattle.collector_model.specs.View.{View}
 use Rattle.collector_model.specs.Image.{RestoreResult, parse, accepts}
-use Rattle.archive_model.specs.Row.{Row, rows_block, block_number, row_count, rows_of, is_sound, is_blank}
-use Rattle.archive_model.specs.Buffer.{max_blocks, max_rows, blocks_for}
+use Rattle.archive_model.specs.Row.{rows_block, block_number, row_count, rows_of, is_sound, is_blank}
+use Rattle.archive_model.specs.Buffer.{max_blocks, max_rows}
 use Rattle.archive_model.proofs.Exact.{sound_fits, sound_is}
 use Rattle.archive_model.proofs.Pieces.{rows-count}
-use Rattle.journal_model.specs.Disk.{State, collector_in, counted, used_blocks, last_used}
+use Rattle.journal_model.specs.Disk.{collector_in, counted, last_used}
 use Rattle.journal_model.specs.Claims.{IsCopied}
 use Rattle.journal_model.proofs.Kept.{unfits}
-use Rattle.journal_state.specs.State.{Kept, began, had, file_number, name_length, max_name}
-use Rattle.journal_state.specs.Lawful.{image_rows, is_last_of, is_file, is_attached, is_placed, is_printed, is_lawful_state}
+use Rattle.journal_state.specs.State.{Kept, began, had, name_length, max_name}
+use Rattle.journal_state.specs.Lawful.{image_rows, is_last_of, is_file, is_attached, is_lawful_state}
 use Rattle.journal_state.specs.Claims.{state_of, IsModelled, StateModelled}
 use Rattle.journal_state.proofs.Laws.{held}
 

@@ -1,5 +1,5 @@
 -- The bytes of the tool's state file (docs/FORMATS.md, "State file of mooringeye collect").
-use Rattle.std.specs.Prelude.{ℕ, ◌+◌, cond, List, [], ◌∷◌, ◌++◌, eqb, length, get_or, take, drop}
+use Rattle.std.specs.Prelude.{ℕ, cond, List, [], ◌∷◌, ◌++◌, eqb, get_or, drop}
 use Rattle.base_lists.specs.Lists.{padded}
 use Rattle.base_crc8.specs.Crc8.{crc_of}
 use Rattle.base_buffers.specs.Buffer.{part, resized}

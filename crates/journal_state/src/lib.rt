@@ -1,4 +1,6 @@
 // The state file of the plant's tool: writes it from numbers and bytes, and accepts it exactly if it is what is written (docs/FORMATS.md).
+#![tactic(auto)]
+
 pub mod lawful;
 pub mod writing;
 

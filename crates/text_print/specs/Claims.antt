@@ -1,6 +1,6 @@
 -- The claim on the steps of the program. proofs/Runs.antt proves it. Of the code, the proof uses only the contract of
 -- `step`.
-use Rattle.std.specs.Prelude.{ℕ, ◌+◌, ◌≡◌, true, false, List, [], ◌∷◌, ◌++◌, map, eqb, length, take}
+use Rattle.std.specs.Prelude.{ℕ, ◌≡◌, true, false, List, [], ◌∷◌, ◌++◌, map, eqb, length, take}
 use Rattle.text_program.specs.Chunks.{joined}
 use Rattle.text_program.specs.Collect.{Phase, starting}
 use Rattle.text_collect.specs.Printed.{printed_of}

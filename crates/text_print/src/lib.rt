@@ -1,5 +1,7 @@
 // What `collect` prints (document 01, "Cases"). `step` makes the text of a chunk. The program reads, calls it and writes; `print` does the same for a
 // whole input.
+#![tactic(auto)]
+
 ghost use Rattle.std.specs.Prelude.{◌≡◌, Bool, true, cond, ◌++◌, ◌+◌, ◌-◌, ◌≤◌, min, length, take, drop};
 ghost use Rattle.std.proofs.lemmas.List.Edits.{sets};
 ghost use Rattle.text_lines.specs.Reading.{line_limit};
