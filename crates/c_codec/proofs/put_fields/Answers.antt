@@ -45,18 +45,18 @@ step2 c =
 
 abbrev step3 : After-put_bytes-2 → Writing 12
 step3 c =
-    let c-back3 = c.before.before.before in
+    let c_back3 = c.before.before.before in
     let a = c.args in
     packed
-    (lend_sized (step2 c-back3.before.before).begun _ (λ w. resized w a.t.txid) 12 c.put_bytes-2.ensures
+    (lend_sized (step2 c_back3.before.before).begun _ (λ w. resized w a.t.txid) 12 c.put_bytes-2.ensures
     c.put_bytes-2.auto.out (omega arith) (omega (arith, c.requires.0)))
 
 abbrev step4 : After-put_bytes-3 → Writing 26
 step4 c =
-    let c-back3 = c.before.before.before in
+    let c_back3 = c.before.before.before in
     let a = c.args in
     packed
-    (lend_sized (step3 c-back3.before.before).begun _ (λ w. resized w a.t.payload) 26 c.put_bytes-3.ensures
+    (lend_sized (step3 c_back3.before.before).begun _ (λ w. resized w a.t.payload) 26 c.put_bytes-3.ensures
     c.put_bytes-3.auto.out (omega arith) (omega (arith, c.requires.0)))
 
 pub returns : goal.returns

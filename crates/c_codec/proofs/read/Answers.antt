@@ -40,10 +40,10 @@ put_fields-requires c =
 
 pub returns : goal.returns
 returns c =
-    let c-back3 = c.before.before.before in
-    let c-back6 = c-back3.before.before.before in
+    let c_back3 = c.before.before.before in
+    let c_back6 = c_back3.before.before.before in
     let a = c.args in
     let written = c.put_fields.ensures ∙ ap (λ (r : Read). fields_bytes r.telegram) c.read-reading.ensures in
-    answered_is c.checked_number-check.result (expected c-back6.before).number _
-    (fields_bytes (expected c-back6.before).telegram) a.fields.now (number c-back6.before) c.if-check-ne0.false written
+    answered_is c.checked_number-check.result (expected c_back6.before).number _
+    (fields_bytes (expected c_back6.before).telegram) a.fields.now (number c_back6.before) c.if-check-ne0.false written
     ∙ read_done a.bytes.now a.fields.now c.if-fields-ne-FIELDS_LENGTH.false

@@ -42,14 +42,14 @@ overflow_cast-frame c =
 
 pub returns : goal.returns
 returns c =
-    let c-back3 = c.before.before.before in
-    let c-back6 = c-back3.before.before.before in
-    let c-back9 = c-back6.before.before.before in
+    let c_back3 = c.before.before.before in
+    let c_back6 = c_back3.before.before.before in
+    let c_back9 = c_back6.before.before.before in
     let a = c.args in
     let long = c.if-sent-ne-FRAME_LENGTH.false in
     let written =
     c.put_frame.ensures ∙ overwritten-fits frame_length _ a.sent.now long
     ∙ ap (λ (r : RepeatResult). sent_frame_bytes r.sent) c.repeat-repeated.ensures in
-    answered_is c.checked_number-number.result (expected c-back9.before).number _
-    (sent_frame_bytes (expected c-back9.before).sent) a.sent.now (number c-back9.before) c.if-number-ne0.false written
+    answered_is c.checked_number-number.result (expected c_back9.before).number _
+    (sent_frame_bytes (expected c_back9.before).sent) a.sent.now (number c_back9.before) c.if-number-ne0.false written
     ∙ repeat_done a.setting a.bytes.now a.sent.now long

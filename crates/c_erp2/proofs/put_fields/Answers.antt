@@ -28,16 +28,16 @@ step1 c =
 
 abbrev step2 : After-put_bytes → Writing 261
 step2 c =
-    let c-back3 = c.before.before.before in
+    let c_back3 = c.before.before.before in
     packed
-    (lend_sized (step1 c-back3.before.before).begun _ (λ w. resized w c.args.t.payload) 261 c.put_bytes.ensures
+    (lend_sized (step1 c_back3.before.before).begun _ (λ w. resized w c.args.t.payload) 261 c.put_bytes.ensures
     c.put_bytes.auto.out (omega arith) (omega (arith, c.requires.0)))
 
 abbrev step3 : After-put_bytes-2 → Writing 276
 step3 c =
-    let c-back3 = c.before.before.before in
+    let c_back3 = c.before.before.before in
     packed
-    (lend_sized (step2 c-back3.before.before).begun _ (λ w. resized w c.args.t.optional) 276
+    (lend_sized (step2 c_back3.before.before).begun _ (λ w. resized w c.args.t.optional) 276
     c.put_bytes-2.ensures c.put_bytes-2.auto.out (omega arith) (omega (arith, c.requires.0)))
 
 pub returns : goal.returns

@@ -39,12 +39,12 @@ put_fields-requires c =
 
 pub returns : goal.returns
 returns c =
-    let c-back3 = c.before.before.before in
-    let c-back6 = c-back3.before.before.before in
+    let c_back3 = c.before.before.before in
+    let c_back6 = c_back3.before.before.before in
     let a = c.args in
     rw c.put_fields.ensures
     (ap (λ (r : Read). reading c.checked_number-number.result (fields_bytes r.telegram)
     r.telegram.originator r.telegram.destination.id)
     c.read-reading.ensures
     ∙ read_done a.bytes.now a.fields.now a.originator.now a.destination.now
-    c.checked_number-number.result c.if-fields-ne-FIELDS_LENGTH.false (number c-back6.before) c.if-number-ne0.false)
+    c.checked_number-number.result c.if-fields-ne-FIELDS_LENGTH.false (number c_back6.before) c.if-number-ne0.false)

@@ -49,9 +49,9 @@ beside k number = record { number = number; next = k }
 
 pub returns-then-len : goal.returns-then-len
 returns-then-len c =
-    let c-back3 = c.before.before.before in
-    ap (beside (said c-back3.before)) c.number.ensures
-    ∙ files.accept_size c.args.bytes.now (said c-back3.before) (files.is_length (length c.args.bytes.now) true
+    let c_back3 = c.before.before.before in
+    ap (beside (said c_back3.before)) c.number.ensures
+    ∙ files.accept_size c.args.bytes.now (said c_back3.before) (files.is_length (length c.args.bytes.now) true
     c.if-len.true)
 
 is_length : (c : Else-len) → eqb (length c.args.bytes.now) state_length || eqb (length c.args.bytes.now) old_length
@@ -64,93 +64,93 @@ long c = (files.lengths (length c.args.bytes.now) (is_length c)).0
 -- the log's bytes
 rest_is : (c : After-put_bytes) → c.put_bytes.new.out ≡ resized max_tail (drop old_length c.args.bytes.now)
 rest_is c =
-    let c-back3 = c.before.before.before in
-    c.put_bytes.ensures ∙ files.rest_is c.args.bytes.now (long c-back3.before)
+    let c_back3 = c.before.before.before in
+    c.put_bytes.ensures ∙ files.rest_is c.args.bytes.now (long c_back3.before)
 
 pub is_state-requires : goal.is_state-requires
 is_state-requires c =
-    let c-back3 = c.before.before.before in
-    let c-back6 = c-back3.before.before.before in
-    (is_length c-back6.before.before, c.numbers_in-read.ensures, rest_is c-back3.before)
+    let c_back3 = c.before.before.before in
+    let c_back6 = c_back3.before.before.before in
+    (is_length c_back6.before.before, c.numbers_in-read.ensures, rest_is c_back3.before)
 
 pub returns-then-not-is_state : goal.returns-then-not-is_state
 returns-then-not-is_state c =
-    let c-back3 = c.before.before.before in
-    let c-back6 = c-back3.before.before.before in
-    let c-back9 = c-back6.before.before.before in
-    let c-back12 = c-back9.before.before.before in
-    ap (beside (said c-back12.before)) c.number-then-not-is_state.ensures
-    ∙ files.accept_not c.args.bytes.now (said c-back12.before) (is_length c-back9.before.before)
+    let c_back3 = c.before.before.before in
+    let c_back6 = c_back3.before.before.before in
+    let c_back9 = c_back6.before.before.before in
+    let c_back12 = c_back9.before.before.before in
+    ap (beside (said c_back12.before)) c.number-then-not-is_state.ensures
+    ∙ files.accept_not c.args.bytes.now (said c_back12.before) (is_length c_back9.before.before)
     (sym c.is_state.ensures ∙ not-true _
     (ap not c.if-not-is_state.true))
 
 name_is : (c : After-put_bytes-2) → c.put_bytes-2.new.out ≡ part 41 max_name c.args.bytes.now
 name_is c =
-    let c-back3 = c.before.before.before in
-    let c-back6 = c-back3.before.before.before in
-    let c-back9 = c-back6.before.before.before in
+    let c_back3 = c.before.before.before in
+    let c_back6 = c_back3.before.before.before in
+    let c_back9 = c_back6.before.before.before in
     let bytes = c.args.bytes.now in
     let n : length c.args.name.now ≡ max_name = search rules in
     c.put_bytes-2.ensures ∙ resized_whole _ (part 41 max_name bytes)
-    ((files.sized bytes (long c-back9.before.before.before)).name ∙ sym n)
+    ((files.sized bytes (long c_back9.before.before.before)).name ∙ sym n)
 
 last_is : (c : After-put_bytes-3)
     → c.put_bytes-3.new.out ≡ part block_length block_length c.args.bytes.now
 last_is c =
-    let c-back3 = c.before.before.before in
-    let c-back6 = c-back3.before.before.before in
-    let c-back9 = c-back6.before.before.before in
-    let c-back12 = c-back9.before.before.before in
+    let c_back3 = c.before.before.before in
+    let c_back6 = c_back3.before.before.before in
+    let c_back9 = c_back6.before.before.before in
+    let c_back12 = c_back9.before.before.before in
     let bytes = c.args.bytes.now in
     let n : length c.args.last.now ≡ block_length = search rules in
     c.put_bytes-3.ensures ∙ resized_whole _ (part block_length block_length bytes)
-    ((files.sized bytes (long c-back12.before.before.before)).last
+    ((files.sized bytes (long c_back12.before.before.before)).last
     ∙ sym n)
 
 image_is : (c : After-put_bytes-4)
     → c.put_bytes-4.new.out ≡ part 1024 image_length c.args.bytes.now
 image_is c =
-    let c-back3 = c.before.before.before in
-    let c-back6 = c-back3.before.before.before in
-    let c-back9 = c-back6.before.before.before in
-    let c-back12 = c-back9.before.before.before in
-    let c-back15 = c-back12.before.before.before in
+    let c_back3 = c.before.before.before in
+    let c_back6 = c_back3.before.before.before in
+    let c_back9 = c_back6.before.before.before in
+    let c_back12 = c_back9.before.before.before in
+    let c_back15 = c_back12.before.before.before in
     let bytes = c.args.bytes.now in
     let n : length c.args.image.now ≡ image_length = search rules in
     c.put_bytes-4.ensures ∙ resized_whole _ (part 1024 image_length bytes)
-    ((files.sized bytes (long c-back15.before.before.before)).image ∙ sym n)
+    ((files.sized bytes (long c_back15.before.before.before)).image ∙ sym n)
 
 tail_is : (c : After-put_bytes-5)
     → c.put_bytes-5.new.out ≡ resized max_tail (drop old_length c.args.bytes.now)
 tail_is c =
-    let c-back3 = c.before.before.before in
-    let c-back6 = c-back3.before.before.before in
-    let c-back9 = c-back6.before.before.before in
-    let c-back12 = c-back9.before.before.before in
-    let c-back15 = c-back12.before.before.before in
+    let c_back3 = c.before.before.before in
+    let c_back6 = c_back3.before.before.before in
+    let c_back9 = c_back6.before.before.before in
+    let c_back12 = c_back9.before.before.before in
+    let c_back15 = c_back12.before.before.before in
     let n : length c.args.tail.now ≡ max_tail = search rules in
     c.put_bytes-5.ensures
-    ∙ resized_whole _ c.put_bytes.new.out (ap length (rest_is c-back15.before.before)
+    ∙ resized_whole _ c.put_bytes.new.out (ap length (rest_is c_back15.before.before)
     ∙ resized-length max_tail (drop old_length c.args.bytes.now) ∙ sym n)
-    ∙ rest_is c-back15.before.before
+    ∙ rest_is c_back15.before.before
 
 pub returns : goal.returns
 returns c =
-    let c-back3 = c.before.before.before in
-    let c-back6 = c-back3.before.before.before in
-    let c-back9 = c-back6.before.before.before in
-    let c-back12 = c-back9.before.before.before in
-    let c-back15 = c-back12.before.before.before in
-    let c-back18 = c-back15.before.before.before in
-    let c-back21 = c-back18.before.before.before in
+    let c_back3 = c.before.before.before in
+    let c_back6 = c_back3.before.before.before in
+    let c_back9 = c_back6.before.before.before in
+    let c_back12 = c_back9.before.before.before in
+    let c_back15 = c_back12.before.before.before in
+    let c_back18 = c_back15.before.before.before in
+    let c_back21 = c_back18.before.before.before in
     let bytes = c.args.bytes.now in
     let numbers = c.numbers_in-read.ensures in
     (λ j. record {
       number = 0;
-      next = kept (numbers j) (name_is c-back9.before j) (last_is c-back6.before j)
-          (image_is c-back3.before j) (tail_is c.before j);
+      next = kept (numbers j) (name_is c_back9.before j) (last_is c_back6.before j)
+          (image_is c_back3.before j) (tail_is c.before j);
     })
-    ∙ files.accept_done bytes (said c-back21.before.before.before) (is_length c-back21.before)
+    ∙ files.accept_done bytes (said c_back21.before.before.before) (is_length c_back21.before)
     (sym c.is_state.ensures ∙ c.if-not-is_state.false)
 
 pub numbers_in-read-requires : goal.numbers_in-read-requires
@@ -164,24 +164,24 @@ slice_bounds-put_bytes-start c = omega (arith, long c.before.before.before)
 
 pub slice_bounds-put_bytes-end-4 : goal.slice_bounds-put_bytes-end-4
 slice_bounds-put_bytes-end-4 c =
-    let c-back3 = c.before.before.before in
-    let c-back6 = c-back3.before.before.before in
-    let c-back9 = c-back6.before.before.before in
-    omega (arith, long c-back9.before.before)
+    let c_back3 = c.before.before.before in
+    let c_back6 = c_back3.before.before.before in
+    let c_back9 = c_back6.before.before.before in
+    omega (arith, long c_back9.before.before)
 
 pub slice_bounds-put_bytes-end-6 : goal.slice_bounds-put_bytes-end-6
 slice_bounds-put_bytes-end-6 c =
-    let c-back3 = c.before.before.before in
-    let c-back6 = c-back3.before.before.before in
-    let c-back9 = c-back6.before.before.before in
-    let c-back12 = c-back9.before.before.before in
-    omega (arith, long c-back12.before.before)
+    let c_back3 = c.before.before.before in
+    let c_back6 = c_back3.before.before.before in
+    let c_back9 = c_back6.before.before.before in
+    let c_back12 = c_back9.before.before.before in
+    omega (arith, long c_back12.before.before)
 
 pub slice_bounds-put_bytes-end-8 : goal.slice_bounds-put_bytes-end-8
 slice_bounds-put_bytes-end-8 c =
-    let c-back3 = c.before.before.before in
-    let c-back6 = c-back3.before.before.before in
-    let c-back9 = c-back6.before.before.before in
-    let c-back12 = c-back9.before.before.before in
-    let c-back15 = c-back12.before.before.before in
-    omega (arith, long c-back15.before.before)
+    let c_back3 = c.before.before.before in
+    let c_back6 = c_back3.before.before.before in
+    let c_back9 = c_back6.before.before.before in
+    let c_back12 = c_back9.before.before.before in
+    let c_back15 = c_back12.before.before.before in
+    omega (arith, long c_back15.before.before)

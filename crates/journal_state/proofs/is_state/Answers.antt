@@ -64,45 +64,45 @@ yes c = sym (told c.before) ∙ c.if-not-is_said.false
 
 pub is_lawful-requires : goal.is_lawful-requires
 is_lawful-requires c =
-    let c-back3 = c.before.before.before in
-    let c-back6 = c-back3.before.before.before in
-    rw (same c-back6.before.before) (files.sized c.args.bytes.now (long c-back6.before.before))
+    let c_back3 = c.before.before.before in
+    let c_back6 = c_back3.before.before.before in
+    rw (same c_back6.before.before) (files.sized c.args.bytes.now (long c_back6.before.before))
 
 law_told : (c : After-is_lawful) → c.is_lawful.result ≡ is_lawful_state (read_state c.args.bytes.now)
 law_told c =
-    let c-back3 = c.before.before.before in
-    let c-back6 = c-back3.before.before.before in
-    c.is_lawful.ensures ∙ ap is_lawful_state (same c-back6.before.before)
+    let c_back3 = c.before.before.before in
+    let c_back6 = c_back3.before.before.before in
+    c.is_lawful.ensures ∙ ap is_lawful_state (same c_back6.before.before)
 
 pub returns-then-not-is_lawful : goal.returns-then-not-is_lawful
 returns-then-not-is_lawful c =
-    let c-back3 = c.before.before.before in
-    let c-back6 = c-back3.before.before.before in
-    files.state-unlawful c.args.bytes.now (yes c-back6.before)
+    let c_back3 = c.before.before.before in
+    let c_back6 = c_back3.before.before.before in
+    files.state-unlawful c.args.bytes.now (yes c_back6.before)
     (sym (law_told c.before.before) ∙ c.if-not-is_lawful.true)
 
 pub returns : goal.returns
 returns c =
-    let c-back3 = c.before.before.before in
-    let c-back6 = c-back3.before.before.before in
-    c.is_written.ensures ∙ files.state-written c.args.bytes.now (yes c-back6.before.before)
+    let c_back3 = c.before.before.before in
+    let c_back6 = c_back3.before.before.before in
+    c.is_written.ensures ∙ files.state-written c.args.bytes.now (yes c_back6.before.before)
     (sym (law_told c.before.before.before)
     ∙ c.if-not-is_lawful.false)
 
 pub slice_bounds-is_lawful-end : goal.slice_bounds-is_lawful-end
 slice_bounds-is_lawful-end c =
-    let c-back3 = c.before.before.before in
-    omega (arith, long c-back3.before)
+    let c_back3 = c.before.before.before in
+    omega (arith, long c_back3.before)
 
 pub slice_bounds-is_lawful-end-2 : goal.slice_bounds-is_lawful-end-2
 slice_bounds-is_lawful-end-2 c =
-    let c-back3 = c.before.before.before in
-    omega (arith, long c-back3.before.before)
+    let c_back3 = c.before.before.before in
+    omega (arith, long c_back3.before.before)
 
 pub slice_bounds-is_lawful-end-3 : goal.slice_bounds-is_lawful-end-3
 slice_bounds-is_lawful-end-3 c =
-    let c-back3 = c.before.before.before in
-    omega (arith, long c-back3.before.before.before)
+    let c_back3 = c.before.before.before in
+    omega (arith, long c_back3.before.before.before)
 
 pub is_written-requires : goal.is_written-requires
 is_written-requires c = c.requires

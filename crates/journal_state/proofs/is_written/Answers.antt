@@ -40,43 +40,43 @@ same s =
 
 pub put_state-requires : goal.put_state-requires
 put_state-requires c =
-    let c-back3 = c.before.before.before in
-    let c-back6 = c-back3.before.before.before in
-    let z : Sized (said c-back6.before.before) =
-    rw (same c-back6.before.before) (sized c.args.bytes.now (long c-back6.before.before).0) in
+    let c_back3 = c.before.before.before in
+    let c_back6 = c_back3.before.before.before in
+    let z : Sized (said c_back6.before.before) =
+    rw (same c_back6.before.before) (sized c.args.bytes.now (long c_back6.before.before).0) in
     (search rules, z)
 
 pub returns : goal.returns
 returns c =
-    let c-back3 = c.before.before.before in
-    let c-back6 = c-back3.before.before.before in
-    let c-back9 = c-back6.before.before.before in
+    let c_back3 = c.before.before.before in
+    let c_back6 = c_back3.before.before.before in
+    let c_back9 = c_back6.before.before.before in
     let bytes = c.args.bytes.now in
     let again : c.put_state.new.out ≡ state_bytes (read_state bytes) (version_of (length bytes)) =
     c.put_state.ensures ∙ ap₂ (λ (k : Kept) (n : ℕ). state_bytes k n)
-    (same c-back9.before.before.before) c.version_of.ensures in
+    (same c_back9.before.before.before) c.version_of.ensures in
     let whole : length bytes - 0 ≡ length bytes = omega arith in
     c.equal.ensures ∙ ap (λ (l : List ℕ). equal (take (length bytes - 0) l) bytes) again
     ∙ ap (λ (n : ℕ). equal (take n (state_bytes (read_state bytes) (version_of (length bytes)))) bytes) whole
 
 pub slice_bounds-put_state-end-2 : goal.slice_bounds-put_state-end-2
 slice_bounds-put_state-end-2 c =
-    let c-back3 = c.before.before.before in
-    omega (arith, (long c-back3.before).0)
+    let c_back3 = c.before.before.before in
+    omega (arith, (long c_back3.before).0)
 
 pub slice_bounds-put_state-end-3 : goal.slice_bounds-put_state-end-3
 slice_bounds-put_state-end-3 c =
-    let c-back3 = c.before.before.before in
-    omega (arith, (long c-back3.before.before).0)
+    let c_back3 = c.before.before.before in
+    omega (arith, (long c_back3.before.before).0)
 
 pub slice_bounds-put_state-end-4 : goal.slice_bounds-put_state-end-4
 slice_bounds-put_state-end-4 c =
-    let c-back3 = c.before.before.before in
-    omega (arith, (long c-back3.before.before.before).0)
+    let c_back3 = c.before.before.before in
+    omega (arith, (long c_back3.before.before.before).0)
 
 pub slice_bounds-equal-end : goal.slice_bounds-equal-end
 slice_bounds-equal-end c =
-    let c-back3 = c.before.before.before in
-    let c-back6 = c-back3.before.before.before in
-    let c-back9 = c-back6.before.before.before in
-    omega (arith, (long c-back9.before).1, c.put_state.auto.out)
+    let c_back3 = c.before.before.before in
+    let c_back6 = c_back3.before.before.before in
+    let c_back9 = c_back6.before.before.before in
+    omega (arith, (long c_back9.before).1, c.put_state.auto.out)

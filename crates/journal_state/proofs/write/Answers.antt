@@ -22,15 +22,15 @@ beside output number = record { number = number; output = output }
 
 pub returns-then-not-is_lawful : goal.returns-then-not-is_lawful
 returns-then-not-is_lawful c =
-    let c-back3 = c.before.before.before in
-    let c-back6 = c-back3.before.before.before in
+    let c_back3 = c.before.before.before in
+    let c_back6 = c_back3.before.before.before in
     ap (beside c.args.out.now) c.number.ensures
-    ∙ write_not (said c-back6.before) c.args.out.now (sym c.is_lawful.ensures ∙ c.if-not-is_lawful.true)
+    ∙ write_not (said c_back6.before) c.args.out.now (sym c.is_lawful.ensures ∙ c.if-not-is_lawful.true)
 
 pub returns : goal.returns
 returns c =
-    let c-back3 = c.before.before.before in
-    let c-back6 = c-back3.before.before.before in
-    let c-back9 = c-back6.before.before.before in
+    let c_back3 = c.before.before.before in
+    let c_back6 = c_back3.before.before.before in
+    let c_back9 = c_back6.before.before.before in
     ap (λ (o : List ℕ). beside o 0) c.put_state.ensures
-    ∙ write_done (said c-back9.before.before.before) c.args.out.now (sym c.is_lawful.ensures ∙ c.if-not-is_lawful.false)
+    ∙ write_done (said c_back9.before.before.before) c.args.out.now (sym c.is_lawful.ensures ∙ c.if-not-is_lawful.false)

@@ -112,77 +112,77 @@ returns-then-out-to c =
 
 pub write_some-requires : goal.write_some-requires
 write_some-requires c =
-    let c-back3 = c.before.before.before in
+    let c_back3 = c.before.before.before in
     let l = c.loop-out in
     let a = c.args in (
       text-fits a.write a.input.now a.out.now l.invariant.passing
-          (read c-back3.before) (size c-back3.before) c.step-t.result (stepped c-back3.before) l.invariant.text_long,
+          (read c_back3.before) (size c_back3.before) c.step-t.result (stepped c_back3.before) l.invariant.text_long,
       omega (arith, room c.before.before.before, l.invariant.out_long),
     )
 
 pub overflow_add-at : goal.overflow_add-at
 overflow_add-at c =
-    let c-back3 = c.before.before.before in
-    let c-back6 = c-back3.before.before.before in
-    let c-back9 = c-back6.before.before.before in
-    let c-back12 = c-back9.before.before.before in
-    let c-back15 = c-back12.before.before.before in
-    let c-back18 = c-back15.before.before.before in
-    omega (arith, within c-back6.before, input-small c-back18.before)
+    let c_back3 = c.before.before.before in
+    let c_back6 = c_back3.before.before.before in
+    let c_back9 = c_back6.before.before.before in
+    let c_back12 = c_back9.before.before.before in
+    let c_back15 = c_back12.before.before.before in
+    let c_back18 = c_back15.before.before.before in
+    omega (arith, within c_back6.before, input-small c_back18.before)
 
 pub overflow_add-to : goal.overflow_add-to
 overflow_add-to c =
-    let c-back3 = c.before.before.before in
-    let c-back6 = c-back3.before.before.before in
-    let c-back9 = c-back6.before.before.before in
-    let c-back12 = c-back9.before.before.before in
-    let c-back15 = c-back12.before.before.before in
-    let c-back18 = c-back15.before.before.before in
-    omega (arith, room c-back3.before.before.before, out-small c-back18.before)
+    let c_back3 = c.before.before.before in
+    let c_back6 = c_back3.before.before.before in
+    let c_back9 = c_back6.before.before.before in
+    let c_back12 = c_back9.before.before.before in
+    let c_back15 = c_back12.before.before.before in
+    let c_back18 = c_back15.before.before.before in
+    omega (arith, room c_back3.before.before.before, out-small c_back18.before)
 
 pub returns-then-t : goal.returns-then-t
 returns-then-t c =
-    let c-back3 = c.before.before.before in
-    let c-back6 = c-back3.before.before.before in
+    let c_back3 = c.before.before.before in
+    let c_back6 = c_back3.before.before.before in
     let l = c.loop-out in
     let a = c.args in
-    done a.write a.input.now a.out.now l.invariant.passing (read c-back6.before.before)
-    (size c-back6.before.before) c.step-t.result
-    (stepped c-back6.before.before) l.invariant.text_long (room c-back6.before) c.write_some.ensures c.if-t.true
+    done a.write a.input.now a.out.now l.invariant.passing (read c_back6.before.before)
+    (size c_back6.before.before) c.step-t.result
+    (stepped c_back6.before.before) l.invariant.text_long (room c_back6.before) c.write_some.ensures c.if-t.true
 
 pub loop-out-smaller : goal.loop-out-smaller
 loop-out-smaller c =
-    let c-back3 = c.before.before.before in
-    let c-back6 = c-back3.before.before.before in
+    let c_back3 = c.before.before.before in
+    let c_back6 = c_back3.before.before.before in
     let l = c.loop-out in
     let a = c.args in
     let n =
-    more_read a.write a.input.now a.out.now l.invariant.passing (read c-back6.before.before.before)
-    (size c-back6.before.before.before) c.step-t.result
-    (stepped c-back6.before.before.before) l.invariant.text_long
-    (room c-back6.before.before) c.write_some.ensures c.if-t.false in
-    omega (arith, n, within c-back6.before.before.before)
+    more_read a.write a.input.now a.out.now l.invariant.passing (read c_back6.before.before.before)
+    (size c_back6.before.before.before) c.step-t.result
+    (stepped c_back6.before.before.before) l.invariant.text_long
+    (room c_back6.before.before) c.write_some.ensures c.if-t.false in
+    omega (arith, n, within c_back6.before.before.before)
 
 pub loop-out-preserved : goal.loop-out-preserved
 loop-out-preserved c =
-    let c-back3 = c.before.before.before in
-    let c-back6 = c-back3.before.before.before in
+    let c_back3 = c.before.before.before in
+    let c_back6 = c_back3.before.before.before in
     let l = c.loop-out in
     let a = c.args in
     let b = c.read_some-n in
-    let t = stepped c-back6.before.before.before in
-    let line = (position_after (phase_of l.s) (kept c-back6.before.before.before
-    ++ take (read c-back6.before.before.before) (drop l.at (input c-back6.before.before.before)))).line in
+    let t = stepped c_back6.before.before.before in
+    let line = (position_after (phase_of l.s) (kept c_back6.before.before.before
+    ++ take (read c_back6.before.before.before) (drop l.at (input c_back6.before.before.before)))).line in
     let size_of : length b.new.buffer ≡ chunk = omega (arith, b.auto.buffer, l.invariant.buffer_long) in
     record {
       passing =
           rw (front_there b.new.buffer line t.kept (omega (arith, t.few, size_of)) t.line)
-          (goes_on a.write a.input.now a.out.now l.invariant.passing (read c-back6.before.before.before)
-          (size c-back6.before.before.before) c.step-t.result t
-          l.invariant.text_long (room c-back6.before.before) c.write_some.ensures c.if-t.false);
+          (goes_on a.write a.input.now a.out.now l.invariant.passing (read c_back6.before.before.before)
+          (size c_back6.before.before.before) c.step-t.result t
+          l.invariant.text_long (room c_back6.before.before) c.write_some.ensures c.if-t.false);
       few = t.few;
       buffer_long = ap length t.line ∙ length-sets b.new.buffer 0 line ∙ size_of;
-      text_long = text-long c-back6.before.before.before;
+      text_long = text-long c_back6.before.before.before;
       out_long = out-long c.before.before.before;
     }
 

@@ -33,12 +33,12 @@ ordered c = omega (arith, (drained c).within, length-take c.args.end (buffer c))
 
 pub slice_bounds-finish-end : goal.slice_bounds-finish-end
 slice_bounds-finish-end c =
-    let c-back3 = c.before.before.before in
+    let c_back3 = c.before.before.before in
     omega (
       arith,
-      kept-count (buffer c-back3.before.before) _ _ (fits c-back3.before.before)
-          (ordered c-back3.before.before) c.carry-kept.ensures,
-      kept-fits (buffer c-back3.before.before) _ _ (fits c-back3.before.before) (ordered c-back3.before.before),
+      kept-count (buffer c_back3.before.before) _ _ (fits c_back3.before.before)
+          (ordered c_back3.before.before) c.carry-kept.ensures,
+      kept-fits (buffer c_back3.before.before) _ _ (fits c_back3.before.before) (ordered c_back3.before.before),
       c.carry-kept.auto.buffer,
     )
 
@@ -57,32 +57,33 @@ room c =
 
 pub finish-more-requires : goal.finish-more-requires
 finish-more-requires c =
-    let c-back3 = c.before.before.before in
+    let c_back3 = c.before.before.before in
+    let s = c_back3.before.before.before in
     let l = c.take_lines-d in
     let out = l.new.out in
     let w = l.result.written in (
-      rw (kept_there c-back3.before.before.before) (kept_few (buffer c-back3.before.before.before) _ _
-          (fits c-back3.before.before.before) (ordered c-back3.before.before.before)),
-      rw (kept_there c-back3.before.before.before) (kept_open (buffer c-back3.before.before.before) _ _ (fits c-back3.before.before.before) (ordered c-back3.before.before.before) (drained c-back3.before.before.before).rest),
-      omega (arith, room c-back3.before.before.before, length-take (length out - w) (drop w out), length-drop w out),
+      rw (kept_there s) (kept_few (buffer s) _ _
+          (fits s) (ordered s)),
+      rw (kept_there s) (kept_open (buffer s) _ _ (fits s) (ordered s) (drained s).rest),
+      omega (arith, room s, length-take (length out - w) (drop w out), length-drop w out),
     )
 
 pub returns-then-last : goal.returns-then-last
 returns-then-last c =
-    let c-back3 = c.before.before.before in
-    let c-back6 = c-back3.before.before.before in
-    let c-back9 = c-back6.before.before.before in
+    let c_back3 = c.before.before.before in
+    let c_back6 = c_back3.before.before.before in
+    let c_back9 = c_back6.before.before.before in
     let z : c.carry-kept.result - 0 ≡ c.carry-kept.result = omega arith in
     rw c.if-last.true
-    (ended (buffer c-back9.before) _ _ (fits c-back9.before) (ordered c-back9.before) c.carry-kept.ensures c.requires.0
-    c.take_lines-d.result.session (drained c-back9.before).fed (drained c-back9.before).rest c.requires.2
+    (ended (buffer c_back9.before) _ _ (fits c_back9.before) (ordered c_back9.before) c.carry-kept.ensures c.requires.0
+    c.take_lines-d.result.session (drained c_back9.before).fed (drained c_back9.before).rest c.requires.2
     (rw z at c.finish-more.ensures))
 
 pub returns : goal.returns
 returns c =
-    let c-back3 = c.before.before.before in
+    let c_back3 = c.before.before.before in
     rw (c.if-last.false, c.is_over.ensures)
-    (stepped (buffer c-back3.before.before.before) _ _ (fits c-back3.before.before.before)
-    (ordered c-back3.before.before.before) c.carry-kept.ensures c.requires.0
-    c.take_lines-d.result.session (drained c-back3.before.before.before).fed
-    (drained c-back3.before.before.before).rest c.requires.2)
+    (stepped (buffer c_back3.before.before.before) _ _ (fits c_back3.before.before.before)
+    (ordered c_back3.before.before.before) c.carry-kept.ensures c.requires.0
+    c.take_lines-d.result.session (drained c_back3.before.before.before).fed
+    (drained c_back3.before.before.before).rest c.requires.2)

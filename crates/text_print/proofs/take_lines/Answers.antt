@@ -68,10 +68,10 @@ more : (c : After-lines-p) → (let l = c.loop-at in let a = c.args in
     a.out.now (phase_of c.lines-p.result.session)
     (put_mid l.to (length l.out - l.to) l.out c.lines-p.new.out) (l.to + c.lines-p.result.written))
 more c =
-    let c-back3 = c.before.before.before in
+    let c_back3 = c.before.before.before in
     let l = c.loop-at in
     more-fed (collect model_collector) c.args.input.now l.at
-    c.lines-p.result.used l.invariant.fed l.invariant.long (omega (arith, room c-back3.before)) (ran c).fed
+    c.lines-p.result.used l.invariant.fed l.invariant.long (omega (arith, room c_back3.before)) (ran c).fed
 
 used-fits : (c : After-lines-p)
     → c.loop-at.at + c.lines-p.result.used ≤ length c.args.input.now
@@ -93,31 +93,31 @@ same c =
 
 pub overflow_add-at : goal.overflow_add-at
 overflow_add-at c =
-    let c-back3 = c.before.before.before in
-    let c-back6 = c-back3.before.before.before in
-    omega (arith, used-fits c-back6.before)
+    let c_back3 = c.before.before.before in
+    let c_back6 = c_back3.before.before.before in
+    omega (arith, used-fits c_back6.before)
 
 pub overflow_add-to : goal.overflow_add-to
 overflow_add-to c =
-    let c-back3 = c.before.before.before in
-    let c-back6 = c-back3.before.before.before in
-    omega (arith, written-fits c-back6.before.before, c.loop-at.invariant.long, c.requires.1)
+    let c_back3 = c.before.before.before in
+    let c_back6 = c_back3.before.before.before in
+    omega (arith, written-fits c_back6.before.before, c.loop-at.invariant.long, c.requires.1)
 
 pub loop-at-smaller : goal.loop-at-smaller
 loop-at-smaller c =
-    let c-back3 = c.before.before.before in
-    let c-back6 = c-back3.before.before.before in
-    omega (arith, used-fits c-back6.before.before)
+    let c_back3 = c.before.before.before in
+    let c_back6 = c_back3.before.before.before in
+    omega (arith, used-fits c_back6.before.before)
 
 pub loop-at-preserved : goal.loop-at-preserved
 loop-at-preserved c =
-    let c-back3 = c.before.before.before in
-    let c-back6 = c-back3.before.before.before in
+    let c_back3 = c.before.before.before in
+    let c_back6 = c_back3.before.before.before in
     record {
-      inside = used-fits c-back6.before.before;
-      long = same c-back6.before.before;
+      inside = used-fits c_back6.before.before;
+      long = same c_back6.before.before;
       fed =
-          more c-back6.before.before;
+          more c_back6.before.before;
     }
 
 pub returns-after-loop-at : goal.returns-after-loop-at
@@ -127,22 +127,22 @@ returns-after-loop-at c =
 
 pub returns-then-p-eq0 : goal.returns-then-p-eq0
 returns-then-p-eq0 c =
-    let c-back3 = c.before.before.before in
-    let c-back6 = c-back3.before.before.before in
-    let c-back9 = c-back6.before.before.before in
+    let c_back3 = c.before.before.before in
+    let c_back6 = c_back3.before.before.before in
+    let c_back9 = c_back6.before.before.before in
     let l = c.loop-at in
     let input = c.args.input.now in
-    let none = none_written (drop l.at input) (ran c-back3.before.before.before).fed c.if-p-eq0.true in
+    let none = none_written (drop l.at input) (ran c_back3.before.before.before).fed c.if-p-eq0.true in
     let here : l.at + c.lines-p.result.used ≡ l.at = omega (arith, c.if-p-eq0.true) in
     let there : l.to + c.lines-p.result.written ≡ l.to = omega arith in
     record {
       within = l.invariant.inside;
-      fed = rw (here, there) at (more c-back3.before.before.before);
+      fed = rw (here, there) at (more c_back3.before.before.before);
       rest =
-          (ran c-back3.before.before.before).rest c.if-p-eq0.true
+          (ran c_back3.before.before.before).rest c.if-p-eq0.true
           (omega (
             arith,
-            room c-back9.before,
+            room c_back9.before,
             length-take (length l.out - l.to) (drop l.to l.out),
             length-drop l.to l.out,
           ));

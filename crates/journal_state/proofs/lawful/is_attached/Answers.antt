@@ -27,8 +27,8 @@ said s = kept s.args.numbers.now s.args.name.now s.args.last.now [] []
 
 pub returns-then-numbers : goal.returns-then-numbers
 returns-then-numbers c =
-    let c-back3 = c.before.before.before in
-    name-long (said c-back3.before.before.before) c.args.counted c.if-numbers.true
+    let c_back3 = c.before.before.before in
+    name-long (said c_back3.before.before.before) c.args.counted c.if-numbers.true
 
 -- what stands behind the name
 told : (c : After-is_blank)
@@ -37,40 +37,40 @@ told : (c : After-is_blank)
     let c_back6 = c_back3.before.before.before in
     c.is_blank.result ≡ is_blank (drop (name_length (said c_back6.before.before)) c.args.name.now))
 told c =
-    let c-back3 = c.before.before.before in
-    let c-back6 = c-back3.before.before.before in
+    let c_back3 = c.before.before.before in
+    let c_back6 = c_back3.before.before.before in
     c.is_blank.ensures
     ∙ ap is_blank
-    (take_all (max_name - name_length (said c-back6.before.before))
-    (drop (name_length (said c-back6.before.before)) c.args.name.now)
-    (rw (length-drop (name_length (said c-back6.before.before)) c.args.name.now) (omega (arith, c.requires))))
+    (take_all (max_name - name_length (said c_back6.before.before))
+    (drop (name_length (said c_back6.before.before)) c.args.name.now)
+    (rw (length-drop (name_length (said c_back6.before.before)) c.args.name.now) (omega (arith, c.requires))))
 
 pub returns-then-not-is_blank : goal.returns-then-not-is_blank
 returns-then-not-is_blank c =
-    let c-back3 = c.before.before.before in
-    let c-back6 = c-back3.before.before.before in
-    let c-back9 = c-back6.before.before.before in
-    name_dirty (said c-back9.before) c.args.counted c.if-numbers.false
+    let c_back3 = c.before.before.before in
+    let c_back6 = c_back3.before.before.before in
+    let c_back9 = c_back6.before.before.before in
+    name_dirty (said c_back9.before) c.args.counted c.if-numbers.false
     (sym (told c.before.before) ∙ c.if-not-is_blank.true)
 
 pub returns-then-used-eq0 : goal.returns-then-used-eq0
 returns-then-used-eq0 c =
-    let c-back3 = c.before.before.before in
-    let c-back6 = c-back3.before.before.before in
-    let c-back9 = c-back6.before.before.before in
-    let c-back12 = c-back9.before.before.before in
-    ap (λ (x : Bool). eqb (began (said c-back12.before.before.before)) 0 && eqb
-    (had (said c-back12.before.before.before)) 0 && eqb (file_number (said c-back12.before.before.before)) 0 && x)
+    let c_back3 = c.before.before.before in
+    let c_back6 = c_back3.before.before.before in
+    let c_back9 = c_back6.before.before.before in
+    let c_back12 = c_back9.before.before.before in
+    ap (λ (x : Bool). eqb (began (said c_back12.before.before.before)) 0 && eqb
+    (had (said c_back12.before.before.before)) 0 && eqb (file_number (said c_back12.before.before.before)) 0 && x)
     c.is_blank-then-used-eq0.ensures
-    ∙ name_none (said c-back12.before.before.before) c.args.counted c.if-numbers.false
-    (sym (told c-back6.before) ∙ c.if-not-is_blank.false) c.if-used-eq0.true
+    ∙ name_none (said c_back12.before.before.before) c.args.counted c.if-numbers.false
+    (sym (told c_back6.before) ∙ c.if-not-is_blank.false) c.if-used-eq0.true
 
 pub returns : goal.returns
 returns c =
-    let c-back3 = c.before.before.before in
-    let c-back6 = c-back3.before.before.before in
-    let c-back9 = c-back6.before.before.before in
-    let c-back12 = c-back9.before.before.before in
-    c.is_file.ensures ∙ file-alone (said c-back12.before.before) c.args.counted
-    ∙ name_some (said c-back12.before.before) c.args.counted c.if-numbers.false
-    (sym (told c-back3.before.before.before) ∙ c.if-not-is_blank.false) c.if-used-eq0.false
+    let c_back3 = c.before.before.before in
+    let c_back6 = c_back3.before.before.before in
+    let c_back9 = c_back6.before.before.before in
+    let c_back12 = c_back9.before.before.before in
+    c.is_file.ensures ∙ file-alone (said c_back12.before.before) c.args.counted
+    ∙ name_some (said c_back12.before.before) c.args.counted c.if-numbers.false
+    (sym (told c_back3.before.before.before) ∙ c.if-not-is_blank.false) c.if-used-eq0.false

@@ -21,19 +21,19 @@ returns-then-counted-began c = file-early (said c.before.before.before) c.args.c
 
 pub returns-then-had : goal.returns-then-had
 returns-then-had c =
-    let c-back3 = c.before.before.before in
-    file_many (said c-back3.before) c.args.counted c.if-counted-began.false (omega (arith, c.if-had.true))
+    let c_back3 = c.before.before.before in
+    file_many (said c_back3.before) c.args.counted c.if-counted-began.false (omega (arith, c.if-had.true))
 
 pub returns-then-had-since : goal.returns-then-had-since
 returns-then-had-since c =
-    let c-back3 = c.before.before.before in
-    file_many (said c-back3.before.before) c.args.counted c.if-counted-began.false
+    let c_back3 = c.before.before.before in
+    file_many (said c_back3.before.before) c.args.counted c.if-counted-began.false
     (omega (arith, c.if-had.false, c.if-had-since.true))
 
 pub returns : goal.returns
 returns c =
-    let c-back3 = c.before.before.before in
-    c.is_last.ensures ∙ file_last (said c-back3.before.before.before) c.args.counted c.if-counted-began.false (omega
+    let c_back3 = c.before.before.before in
+    c.is_last.ensures ∙ file_last (said c_back3.before.before.before) c.args.counted c.if-counted-began.false (omega
     (arith, c.if-had.false, c.if-had-since.false))
 
 pub overflow_add-had : goal.overflow_add-had

@@ -33,9 +33,9 @@ said s = kept s.args.numbers.now s.args.name.now s.args.last.now s.args.image.no
 
 pub returns-then-not-counted : goal.returns-then-not-counted
 returns-then-not-counted c =
-    let c-back3 = c.before.before.before in
-    let c-back6 = c-back3.before.before.before in
-    law_image (said c-back6.before.before) (sym c.rows_of-counted.ensures.accepted ∙ not-true _ c.if-not-counted.true)
+    let c_back3 = c.before.before.before in
+    let c_back6 = c_back3.before.before.before in
+    law_image (said c_back6.before.before) (sym c.rows_of-counted.ensures.accepted ∙ not-true _ c.if-not-counted.true)
 
 yes : (c : Else-not-counted) → c.rows_of-counted.result.accepted ≡ true
 yes c = not-false _ c.if-not-counted.false
@@ -49,19 +49,19 @@ archive-told : (c : After-is_attached) → (
     c.is_attached.result ≡ is_attached (said c_back6.before.before)
     (image_rows c.args.image.now))
 archive-told c =
-    let c-back3 = c.before.before.before in
-    let c-back6 = c-back3.before.before.before in
-    let k = said c-back6.before.before in
+    let c_back3 = c.before.before.before in
+    let c_back6 = c_back3.before.before.before in
+    let k = said c_back6.before.before in
     c.is_attached.ensures ∙ ap (is_attached (kept k.numbers k.name k.last [] []))
     (c.rows_of-counted.ensures.rows (yes c.before))
     ∙ attached_alone k (image_rows k.image)
 
 pub returns-then-not-is_attached : goal.returns-then-not-is_attached
 returns-then-not-is_attached c =
-    let c-back3 = c.before.before.before in
-    let c-back6 = c-back3.before.before.before in
-    let c-back9 = c-back6.before.before.before in
-    law_archive (said c-back9.before) (image-yes c.before.before.before)
+    let c_back3 = c.before.before.before in
+    let c_back6 = c_back3.before.before.before in
+    let c_back9 = c_back6.before.before.before in
+    law_archive (said c_back9.before) (image-yes c.before.before.before)
     (sym (archive-told c.before.before) ∙ c.if-not-is_attached.true)
 
 archive-yes : (c : Else-not-is_attached) → (
@@ -76,28 +76,28 @@ log_told : (c : After-is_placed) → (
     let c_back9 = c_back6.before.before.before in
     c.is_placed.result ≡ is_placed (said c_back9.before))
 log_told c =
-    let c-back3 = c.before.before.before in
-    let c-back6 = c-back3.before.before.before in
-    let c-back9 = c-back6.before.before.before in
-    c.is_placed.ensures ∙ placed-alone (said c-back9.before)
+    let c_back3 = c.before.before.before in
+    let c_back6 = c_back3.before.before.before in
+    let c_back9 = c_back6.before.before.before in
+    c.is_placed.ensures ∙ placed-alone (said c_back9.before)
 
 pub returns-then-not-is_placed : goal.returns-then-not-is_placed
 returns-then-not-is_placed c =
-    let c-back3 = c.before.before.before in
-    let c-back6 = c-back3.before.before.before in
-    let c-back9 = c-back6.before.before.before in
-    law_log (said c-back9.before.before.before) (image-yes c-back3.before.before)
+    let c_back3 = c.before.before.before in
+    let c_back6 = c_back3.before.before.before in
+    let c_back9 = c_back6.before.before.before in
+    law_log (said c_back9.before.before.before) (image-yes c_back3.before.before)
     (archive-yes c.before.before.before) (sym (log_told c.before.before) ∙ c.if-not-is_placed.true)
 
 pub returns : goal.returns
 returns c =
-    let c-back3 = c.before.before.before in
-    let c-back6 = c-back3.before.before.before in
-    let c-back9 = c-back6.before.before.before in
-    let c-back12 = c-back9.before.before.before in
-    let k = said c-back12.before in
-    c.is_printed.ensures ∙ printed-alone k ∙ law_out k (image-yes c-back3.before.before.before)
-    (archive-yes c-back3.before) (sym (log_told c.before.before.before)
+    let c_back3 = c.before.before.before in
+    let c_back6 = c_back3.before.before.before in
+    let c_back9 = c_back6.before.before.before in
+    let c_back12 = c_back9.before.before.before in
+    let k = said c_back12.before in
+    c.is_printed.ensures ∙ printed-alone k ∙ law_out k (image-yes c_back3.before.before.before)
+    (archive-yes c_back3.before) (sym (log_told c.before.before.before)
     ∙ c.if-not-is_placed.false)
 
 pub is_attached-requires : goal.is_attached-requires

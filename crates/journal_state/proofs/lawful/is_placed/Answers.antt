@@ -27,8 +27,8 @@ said s = kept s.args.numbers.now [] [] [] s.args.tail.now
 
 pub returns-then-numbers : goal.returns-then-numbers
 returns-then-numbers c =
-    let c-back3 = c.before.before.before in
-    tail_long (said c-back3.before.before) c.if-numbers.true
+    let c_back3 = c.before.before.before in
+    tail_long (said c_back3.before.before) c.if-numbers.true
 
 -- what stands behind the bytes that are kept
 told : (c : After-is_blank)
@@ -37,35 +37,35 @@ told : (c : After-is_blank)
     let c_back6 = c_back3.before.before.before in
     c.is_blank.result ≡ is_blank (drop (tail_length (said c_back6.before)) c.args.tail.now))
 told c =
-    let c-back3 = c.before.before.before in
-    let c-back6 = c-back3.before.before.before in
+    let c_back3 = c.before.before.before in
+    let c_back6 = c_back3.before.before.before in
     c.is_blank.ensures
     ∙ ap is_blank
-    (take_all (max_tail - tail_length (said c-back6.before)) (drop (tail_length (said c-back6.before)) c.args.tail.now)
-    (rw (length-drop (tail_length (said c-back6.before)) c.args.tail.now) (omega (arith, c.requires))))
+    (take_all (max_tail - tail_length (said c_back6.before)) (drop (tail_length (said c_back6.before)) c.args.tail.now)
+    (rw (length-drop (tail_length (said c_back6.before)) c.args.tail.now) (omega (arith, c.requires))))
 
 pub returns-then-not-is_blank : goal.returns-then-not-is_blank
 returns-then-not-is_blank c =
-    let c-back3 = c.before.before.before in
-    let c-back6 = c-back3.before.before.before in
-    tail_dirty (said c-back6.before.before.before) c.if-numbers.false
+    let c_back3 = c.before.before.before in
+    let c_back6 = c_back3.before.before.before in
+    tail_dirty (said c_back6.before.before.before) c.if-numbers.false
     (sym (told c.before.before) ∙ c.if-not-is_blank.true)
 
 pub returns-then-numbers-eq0 : goal.returns-then-numbers-eq0
 returns-then-numbers-eq0 c =
-    let c-back3 = c.before.before.before in
-    let c-back6 = c-back3.before.before.before in
-    let c-back9 = c-back6.before.before.before in
-    let c-back12 = c-back9.before.before.before in
-    tail_none (said c-back12.before.before.before) c.if-numbers.false
-    (sym (told c-back6.before.before) ∙ c.if-not-is_blank.false) c.if-numbers-eq0.true
+    let c_back3 = c.before.before.before in
+    let c_back6 = c_back3.before.before.before in
+    let c_back9 = c_back6.before.before.before in
+    let c_back12 = c_back9.before.before.before in
+    tail_none (said c_back12.before.before.before) c.if-numbers.false
+    (sym (told c_back6.before.before) ∙ c.if-not-is_blank.false) c.if-numbers-eq0.true
 
 pub returns : goal.returns
 returns c =
-    let c-back3 = c.before.before.before in
-    let c-back6 = c-back3.before.before.before in
-    let c-back9 = c-back6.before.before.before in
-    let c-back12 = c-back9.before.before.before in
-    let k = said c-back12.before.before.before in
+    let c_back3 = c.before.before.before in
+    let c_back6 = c_back3.before.before.before in
+    let c_back9 = c_back6.before.before.before in
+    let c_back12 = c_back9.before.before.before in
+    let k = said c_back12.before.before.before in
     ap (λ (n : ℕ). eqb (logged k) 1 && eqb (tail_length k) n) c.least.ensures
-    ∙ tail_some k c.if-numbers.false (sym (told c-back6.before.before) ∙ c.if-not-is_blank.false) c.if-numbers-eq0.false
+    ∙ tail_some k c.if-numbers.false (sym (told c_back6.before.before) ∙ c.if-not-is_blank.false) c.if-numbers-eq0.false

@@ -42,36 +42,36 @@ step1 c =
 
 abbrev step2 : After-put_number-2 → Writing 16
 step2 c =
-    let c-back3 = c.before.before.before in
+    let c_back3 = c.before.before.before in
     packed
-    (lend_sized (step1 c-back3.before.before).begun _ (λ w. be w (get_or c.args.numbers.now 1 0)) 16
+    (lend_sized (step1 c_back3.before.before).begun _ (λ w. be w (get_or c.args.numbers.now 1 0)) 16
     c.put_number-2.ensures c.put_number-2.auto.out (omega (arith, c.requires.0)) (omega (arith, c.requires.0)))
 
 abbrev step3 : After-put_number-3 → Writing 24
 step3 c =
-    let c-back3 = c.before.before.before in
+    let c_back3 = c.before.before.before in
     packed
-    (lend_sized (step2 c-back3.before.before).begun _ (λ w. be w (get_or c.args.numbers.now 2 0)) 24
+    (lend_sized (step2 c_back3.before.before).begun _ (λ w. be w (get_or c.args.numbers.now 2 0)) 24
     c.put_number-3.ensures c.put_number-3.auto.out (omega (arith, c.requires.0)) (omega (arith, c.requires.0)))
 
 abbrev step4 : After-put_number-4 → Writing 32
 step4 c =
-    let c-back3 = c.before.before.before in
+    let c_back3 = c.before.before.before in
     packed
-    (lend_sized (step3 c-back3.before.before).begun _ (λ w. be w (get_or c.args.numbers.now 3 0)) 32
+    (lend_sized (step3 c_back3.before.before).begun _ (λ w. be w (get_or c.args.numbers.now 3 0)) 32
     c.put_number-4.ensures c.put_number-4.auto.out (omega (arith, c.requires.0)) (omega (arith, c.requires.0)))
 
 abbrev step5 : After-put_number-5 → Writing 33
 step5 c =
-    let c-back3 = c.before.before.before in
+    let c_back3 = c.before.before.before in
     packed
-    (lend_sized (step4 c-back3.before.before).begun _ (λ w. be w (get_or c.args.numbers.now 4 0)) 33
+    (lend_sized (step4 c_back3.before.before).begun _ (λ w. be w (get_or c.args.numbers.now 4 0)) 33
     c.put_number-5.ensures c.put_number-5.auto.out (omega (arith, c.requires.0)) (omega (arith, c.requires.0)))
 
 abbrev named : After-put_bytes → Writing 288
 named c =
-    let c-back3 = c.before.before.before in
-    let b = (step5 c-back3.before).begun in
+    let c_back3 = c.before.before.before in
+    let b = (step5 c_back3.before).begun in
     packed
     (lend b _ c.args.name.now 288
     (c.put_bytes.ensures ∙ ap (λ (n : ℕ). resized n c.args.name.now) (lent b max_name 288 (omega arith) (omega

@@ -54,33 +54,33 @@ marked c =
 
 abbrev archived : After-put_archive → Writing 296
 archived c =
-    let c-back3 = c.before.before.before in
-    let c-back6 = c-back3.before.before.before in
-    packed (lend (marked c-back3.before).begun _
-    (archive_field (said c-back6.before.before.before)) 296 c.put_archive.ensures
+    let c_back3 = c.before.before.before in
+    let c_back6 = c_back3.before.before.before in
+    packed (lend (marked c_back3.before).begun _
+    (archive_field (said c_back6.before.before.before)) 296 c.put_archive.ensures
     c.put_archive.auto.out (omega arith) (omega (arith, c.requires.0)))
 
 abbrev placed : After-put_log → Writing 323
 placed c =
-    let c-back3 = c.before.before.before in
-    let c-back6 = c-back3.before.before.before in
-    let c-back9 = c-back6.before.before.before in
-    let c-back12 = c-back9.before.before.before in
+    let c_back3 = c.before.before.before in
+    let c_back6 = c_back3.before.before.before in
+    let c_back9 = c_back6.before.before.before in
+    let c_back12 = c_back9.before.before.before in
     packed
-    (lend (archived c-back3.before).begun _ (log_field (said c-back12.before)) 323
-    (c.put_log.ensures ∙ log_alone (said c-back12.before))
+    (lend (archived c_back3.before).begun _ (log_field (said c_back12.before)) 323
+    (c.put_log.ensures ∙ log_alone (said c_back12.before))
     c.put_log.auto.out (omega arith) (omega (arith, c.requires.0)))
 
 abbrev printed : After-put_out → Writing 348
 printed c =
-    let c-back3 = c.before.before.before in
-    let c-back6 = c-back3.before.before.before in
-    let c-back9 = c-back6.before.before.before in
-    let c-back12 = c-back9.before.before.before in
-    let c-back15 = c-back12.before.before.before in
+    let c_back3 = c.before.before.before in
+    let c_back6 = c_back3.before.before.before in
+    let c_back9 = c_back6.before.before.before in
+    let c_back12 = c_back9.before.before.before in
+    let c_back15 = c_back12.before.before.before in
     packed
-    (lend (placed c-back3.before).begun _ (out_field (said c-back15.before.before)) 348
-    (c.put_out.ensures ∙ out-alone (said c-back15.before.before))
+    (lend (placed c_back3.before).begun _ (out_field (said c_back15.before.before)) 348
+    (c.put_out.ensures ∙ out-alone (said c_back15.before.before))
     c.put_out.auto.out (omega arith) (omega (arith, c.requires.0)))
 
 abbrev summed : After-slice_known-5-1 → Writing 349
@@ -95,9 +95,9 @@ cleared c =
 pub returns : goal.returns
 unfolding header_with
 returns c =
-    let c-back3 = c.before.before.before in
-    let c-back6 = c-back3.before.before.before in
-    c.seal.ensures ∙ seal_front _ (cleared c-back6.before).begun c.requires.0
+    let c_back3 = c.before.before.before in
+    let c_back6 = c_back3.before.before.before in
+    c.seal.ensures ∙ seal_front _ (cleared c_back6.before).begun c.requires.0
 
 pub slice_bounds-clear-end : goal.slice_bounds-clear-end
 slice_bounds-clear-end c = within (summed c.before).begun body_length (omega (
@@ -107,6 +107,6 @@ slice_bounds-clear-end c = within (summed c.before).begun body_length (omega (
 
 pub shape_of-out : goal.shape_of-out
 shape_of-out c =
-    let c-back3 = c.before.before.before in
-    let c-back6 = c-back3.before.before.before in
-    c.seal.auto.block ∙ begun_length (cleared c-back6.before).begun
+    let c_back3 = c.before.before.before in
+    let c_back6 = c_back3.before.before.before in
+    c.seal.auto.block ∙ begun_length (cleared c_back6.before).begun

@@ -35,30 +35,30 @@ step1 c =
 
 abbrev step2 : After-put_number-2 → Writing 9
 step2 c =
-    let c-back3 = c.before.before.before in
+    let c_back3 = c.before.before.before in
     packed
-    (lend_sized (step1 c-back3.before.before).begun _ (λ w. be w (get_or c.args.numbers.now 6 0)) 9
+    (lend_sized (step1 c_back3.before.before).begun _ (λ w. be w (get_or c.args.numbers.now 6 0)) 9
     c.put_number-2.ensures c.put_number-2.auto.out (omega (arith, c.requires)) (omega (arith, c.requires)))
 
 abbrev step3 : After-put_number-3 → Writing 17
 step3 c =
-    let c-back3 = c.before.before.before in
+    let c_back3 = c.before.before.before in
     packed
-    (lend_sized (step2 c-back3.before.before).begun _ (λ w. be w (get_or c.args.numbers.now 7 0)) 17
+    (lend_sized (step2 c_back3.before.before).begun _ (λ w. be w (get_or c.args.numbers.now 7 0)) 17
     c.put_number-3.ensures c.put_number-3.auto.out (omega (arith, c.requires)) (omega (arith, c.requires)))
 
 abbrev step4 : After-put_number-4 → Writing 25
 step4 c =
-    let c-back3 = c.before.before.before in
+    let c_back3 = c.before.before.before in
     packed
-    (lend_sized (step3 c-back3.before.before).begun _ (λ w. be w (get_or c.args.numbers.now 8 0)) 25
+    (lend_sized (step3 c_back3.before.before).begun _ (λ w. be w (get_or c.args.numbers.now 8 0)) 25
     c.put_number-4.ensures c.put_number-4.auto.out (omega (arith, c.requires)) (omega (arith, c.requires)))
 
 abbrev step5 : After-put_number-5 → Writing 27
 step5 c =
-    let c-back3 = c.before.before.before in
+    let c_back3 = c.before.before.before in
     packed
-    (lend_sized (step4 c-back3.before.before).begun _ (λ w. be w (get_or c.args.numbers.now 9 0)) 27
+    (lend_sized (step4 c_back3.before.before).begun _ (λ w. be w (get_or c.args.numbers.now 9 0)) 27
     c.put_number-5.ensures c.put_number-5.auto.out (omega (arith, c.requires)) (omega (arith, c.requires)))
 
 pub returns : goal.returns

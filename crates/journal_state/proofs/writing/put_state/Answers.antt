@@ -37,18 +37,18 @@ said s = kept s.args.numbers.now s.args.name.now s.args.last.now s.args.image.no
 
 abbrev headed : After-put_header → Writing block_length
 headed c =
-    let c-back3 = c.before.before.before in
-    let c-back6 = c-back3.before.before.before in
+    let c_back3 = c.before.before.before in
+    let c_back6 = c_back3.before.before.before in
     packed
-    (lend (begin c.args.out.now) _ (state_header (said c-back6.before.before) c.args.version) block_length
-    (c.put_header.ensures ∙ header_is (said c-back6.before.before) c.args.version c.crc8_long-crc.result
+    (lend (begin c.args.out.now) _ (state_header (said c_back6.before.before) c.args.version) block_length
+    (c.put_header.ensures ∙ header_is (said c_back6.before.before) c.args.version c.crc8_long-crc.result
     c.crc8_long-crc.ensures)
     c.put_header.auto.out (omega arith) (omega (arith, c.requires.0)))
 
 abbrev copied : After-put_bytes → Writing 1024
 copied c =
-    let c-back3 = c.before.before.before in
-    let b = (headed c-back3.before).begun in
+    let c_back3 = c.before.before.before in
+    let b = (headed c_back3.before).begun in
     let xs = c.args.last.now in
     packed
     (lend b _ xs 1024
@@ -58,8 +58,8 @@ copied c =
 
 abbrev imaged : After-put_bytes-2 → Writing 3584
 imaged c =
-    let c-back3 = c.before.before.before in
-    let b = (copied c-back3.before).begun in
+    let c_back3 = c.before.before.before in
+    let b = (copied c_back3.before).begun in
     let xs = c.args.image.now in
     packed
     (lend b _ xs 3584
@@ -69,8 +69,8 @@ imaged c =
 
 abbrev tailed : After-put_bytes-3 → Writing 4096
 tailed c =
-    let c-back3 = c.before.before.before in
-    let b = (imaged c-back3.before).begun in
+    let c_back3 = c.before.before.before in
+    let b = (imaged c_back3.before).begun in
     let xs = c.args.tail.now in
     packed
     (lend b _ xs 4096
