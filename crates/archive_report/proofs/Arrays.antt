@@ -2,12 +2,11 @@
 --     grows_none, grows-over, grows_then     what stands behind the lines: of no block, of one transmitter too many, and of more blocks
 --     written_is                             an array is its lines, and what stood behind them
 --     lines_new, lines-held                  so it is after blocks, and where a transmitter was one too many of the array before them
-use Prim.Native.Nat.{ℕ, zero, suc, ◌+◌, ◌-◌, ◌*◌, ◌≤◌, ◌<◌}
-use native.Mathlib.Numerals.{add-one}
+use Prim.Native.Nat.{ℕ, zero, suc, ◌+◌, ◌*◌, ◌≤◌, ◌<◌}
 use native.Mathlib.Omega.{arith}
-use mathlib.Core.Path.{◌≡◌, refl, sym, ap, ap₂, ◌∙◌}
+use mathlib.Core.Path.{◌≡◌, refl, sym, ap, ◌∙◌}
 use mathlib.Core.Bool.{true, false, false≢true}
-use mathlib.Core.List.{List, [], ◌∷◌, ◌++◌}
+use mathlib.Core.List.{List, ◌∷◌, ◌++◌}
 use lib.ListN.{length, get_or, drop, length-drop}
 use lib.Seq.{drop-cons, get_or-drop, ext_get_or}
 use Rattle.archive_report.specs.declared.tally.Tally.{Tally}

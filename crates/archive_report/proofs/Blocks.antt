@@ -17,7 +17,7 @@ use lib.Dec.{ltb}
 use lib.ListN.{length, length-map, take, drop}
 use lib.Seq.{take_all, drop-drop}
 use borrow.Author.Tests.{lt-ltb, le-ltb, ltb-false, le-leb, eq-eqb, eqb-true}
-use Rattle.base_lists.specs.Lists.{all, up_from, count}
+use Rattle.base_lists.specs.Lists.{all, up_from}
 use Rattle.base_lists.proofs.Choice.{both, neither}
 use Rattle.base_lists.proofs.Tests.{by_test}
 use Rattle.base_lists.proofs.UpFrom.{length-up_from}
@@ -46,7 +46,8 @@ use Rattle.archive_report.specs.Private.{rows_between, total_of, Inserted, Sane}
 
 -- ---- one cell
 
-row-length : (cell : List ℕ) → is_row (row_in cell) ≡ true → (min_length ≤ cell_used cell) × (cell_used cell ≤ max_length)
+row-length : (cell : List ℕ) → is_row (row_in cell) ≡ true
+    → (min_length ≤ cell_used cell) × (cell_used cell ≤ max_length)
 row-length cell h =
     let f = check_facts (cell_bytes cell) (eqb-true (check_of (cell_bytes cell)) 0 h) in
     (omega (arith, f.low, used_is cell), omega (arith, f.high, used_is cell))

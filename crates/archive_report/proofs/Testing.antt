@@ -96,7 +96,8 @@ module _ (a : Line) (lines : List Line) (kept loose : ℕ) (time : a.latest < 2 
 -- ---- the loop over an array
 
 module _ (xs : List ℕ) where
-  pub rest_first : (n kept loose : ℕ) → is_tally (lines_from xs 0 (n - 0)) kept loose ≡ is_tally (lines_at xs n) kept loose
+  pub rest_first : (n kept loose : ℕ) → is_tally (lines_from xs 0 (n - 0)) kept loose
+      ≡ is_tally (lines_at xs n) kept loose
   rest_first n kept loose =
       let e : n - 0 ≡ n = omega arith in
       ap (λ (m : ℕ). is_tally (lines_from xs 0 m) kept loose) e
@@ -113,7 +114,8 @@ module _ (xs : List ℕ) where
       ∙ ap (λ (j : ℕ). line_at xs i ∷ lines_from xs j (n - (i + 1))) s)
       ∙ tally_next (line_at xs i) (lines_from xs (i + 1) (n - (i + 1))) kept loose t
 
-  pub rest_end : (n i kept loose : ℕ) → n ≤ i → is_tally (lines_from xs i (n - i)) kept loose ≡ eqb kept 0 && eqb loose 0
+  pub rest_end : (n i kept loose : ℕ) → n ≤ i
+      → is_tally (lines_from xs i (n - i)) kept loose ≡ eqb kept 0 && eqb loose 0
   unfolding is_tally
   rest_end n i kept loose h =
       let e : n - i ≡ 0 = omega arith in

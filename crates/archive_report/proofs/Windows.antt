@@ -124,7 +124,8 @@ module _ (xs : List ℕ) (at a b c d e : ℕ) (fits : at + line_length ≤ lengt
   pub five_other : (k : ℕ) → (k ≡ at → ⊥) → (k ≡ at + 1 → ⊥) → (k ≡ at + 2 → ⊥)
       → (k ≡ at + 3 → ⊥) → (k ≡ at + 4 → ⊥) → get_or x5 k 0 ≡ get_or xs k 0
   five_other k n0 n1 n2 n3 n4 =
-      get_or-set_other x4 (at + 4) k e 0 n4 ∙ get_or-set_other x3 (at + 3) k d 0 n3 ∙ get_or-set_other x2 (at + 2) k c 0 n2
+      get_or-set_other x4 (at + 4) k e 0 n4 ∙ get_or-set_other x3 (at + 3) k d 0 n3
+      ∙ get_or-set_other x2 (at + 2) k c 0 n2
       ∙ get_or-set_other x1 (at + 1) k b 0 n1 ∙ get_or-set_other xs at k a 0 n0
 
   pub five_0 : get_or x5 at 0 ≡ a

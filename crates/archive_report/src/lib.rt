@@ -1,4 +1,6 @@
 // The yearly report (document 02, A12): adds archives, reads lines, and computes the share of its rows in receptions.
+#![tactic(auto)]
+
 mod lines;
 mod tally;
 

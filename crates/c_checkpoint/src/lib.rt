@@ -1,4 +1,6 @@
 // The checkpoint of a collector in five lent arrays and its restore, as other languages call them.
+#![tactic(auto)]
+
 ghost use Rattle.std.specs.Prelude.{◌≡◌};
 ghost use Rattle.collector_model.specs.Image.{checkpoint_of};
 ghost use Rattle.c_collector.specs.State.{arrays, state_at, arrays_of};

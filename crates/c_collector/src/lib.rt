@@ -1,4 +1,6 @@
 // The collector in five lent arrays, as other languages call it: the four of the entries, and its eight numbers. It is changed in place.
+#![tactic(auto)]
+
 ghost use Rattle.std.specs.Prelude.{◌≡◌, List, ℕ, length};
 ghost use Rattle.collector_model.specs.Answer.{shown_of, shown_number};
 ghost use Rattle.collector_model.specs.Acceptable.{acceptable};

@@ -1,4 +1,6 @@
 // Lines of text for a collector in five lent arrays, with their rows as text and their rows for an archive, as other languages call it.
+#![tactic(auto)]
+
 pub mod formats;
 
 ghost use Rattle.std.specs.Prelude.{◌≡◌, List, [], ◌∷◌, ℕ, length};

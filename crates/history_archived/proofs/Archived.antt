@@ -170,7 +170,8 @@ archived_storable input = let e = fit-lines (lines_of input) in
 
 -- ---- a record for each time
 
-stored-sized : (a : Shown) (t : ℕ) (bs : List ℕ) → length (stored_record a bs) ≡ row_length * length (stored_time a t bs)
+stored-sized : (a : Shown) (t : ℕ) (bs : List ℕ)
+    → length (stored_record a bs) ≡ row_length * length (stored_time a t bs)
 stored-sized a t bs = go (is_stored a bs) refl
   where
     go : (s : Bool) → is_stored a bs ≡ s
@@ -188,7 +189,8 @@ line-sized : (c : Receiver) (a : Reading) → length (record_of_line c a) ≡ ro
 line-sized c (reception t bs) = stored-sized (step c.view (reception_at t bs)).answer t bs
 line-sized c bad = omega arith
 
-text-sized : (s : Phase Receiver) (l : List ℕ) → length (row_records.text s l) ≡ row_length * length (row_times.text s l)
+text-sized : (s : Phase Receiver) (l : List ℕ)
+    → length (row_records.text s l) ≡ row_length * length (row_times.text s l)
 text-sized starting l = omega arith
 text-sized (running c) l = line-sized c (line_reading l)
 text-sized over l = omega arith

@@ -45,7 +45,8 @@ whole_append (c ∷ x) y b w v = whole_append x y (eqb c newline) w v
 
 -- ---- what programs do with them
 
-pub ticks-count : (x : List ℕ) (a : Position (Phase Receiver)) → length (feed_text line_ticks line_limit a x) ≡ newlines x
+pub ticks-count : (x : List ℕ) (a : Position (Phase Receiver))
+    → length (feed_text line_ticks line_limit a x) ≡ newlines x
 unfolding feed_text newlines
 ticks-count [] a = refl
 ticks-count (c ∷ x) a =
@@ -79,7 +80,8 @@ module _ {S : Type 0} (p : Program S) (s' : S) where
           (omega (arith, z, length-take line_limit (a.line ++ (c ∷ [])), length-append a.line (c ∷ []))))
           f
 
-  pub fed_whole : (s : S) (x : List ℕ) → feed p line_limit (at_line_start s) x ≡ at_line_start s' → is_whole true x ≡ true
+  pub fed_whole : (s : S) (x : List ℕ) → feed p line_limit (at_line_start s) x ≡ at_line_start s'
+      → is_whole true x ≡ true
   fed_whole s x e = fed-from x (at_line_start s) true (λ z. refl) e
 
 -- a text without a newline ends no line
@@ -88,7 +90,8 @@ unfolding is_unended newlines
 open_none [] o = refl
 open_none (c ∷ x) o = go (eqb c newline) o (open_none x)
   where
-    go : (t : Bool) → cond t false (is_unended x) ≡ true → (is_unended x ≡ true → newlines x ≡ 0) → one t + newlines x ≡ 0
+    go : (t : Bool) → cond t false (is_unended x) ≡ true → (is_unended x ≡ true → newlines x ≡ 0)
+        → one t + newlines x ≡ 0
     go true o ih = absurd (false≢true o)
     go false o ih = omega (arith, ih o)
 

@@ -138,7 +138,8 @@ columns-fed x d = record {
 -- ---- lines, counted
 
 -- the count goes through the same states as the times
-ticks-state : (x : List ℕ) (b : Position (Phase Receiver)) → feed line_ticks line_limit b x ≡ feed row_times line_limit b x
+ticks-state : (x : List ℕ) (b : Position (Phase Receiver))
+    → feed line_ticks line_limit b x ≡ feed row_times line_limit b x
 unfolding feed
 ticks-state [] b = refl
 ticks-state (c ∷ x) b = ticks-state x (fed row_times line_limit b c)
@@ -156,7 +157,8 @@ ticks_whole s s' x t d =
     let e : Drained line_ticks line_limit s x s' n =
     record { state = ticks-state x (at_line_start s) ∙ d.state; text = refl }
     in
-    ap length (sym (append-nil n) ∙ given_whole line_ticks ticks_bounded e ∙ append-nil (text_of line_ticks s (lines_of x)))
+    ap length (sym (append-nil n) ∙ given_whole line_ticks ticks_bounded e
+    ∙ append-nil (text_of line_ticks s (lines_of x)))
     ∙ ticks_of (lines_of x) s
 
 -- ---- a run of calls
@@ -206,7 +208,8 @@ module _ (Is : LinesCall → Type 0) (setting : ℕ) (p : Program (Phase Receive
     records : Drained row_records line_limit (phase setting a) (used_in cs) last (joined (map records_by cs))
     records = chain Is setting good row_records records_by (λ c k. (one c k).records) cs a begins_good r
 
-    same_rows : rows_given (joined (map times_by cs)) (joined (map records_by cs)) ≡ model_rows [] (lines_of (used_in cs))
+    same_rows : rows_given (joined (map times_by cs)) (joined (map records_by cs))
+        ≡ model_rows [] (lines_of (used_in cs))
     unfolding past_after_lines
     same_rows =
         let t = sym (append-nil (joined (map times_by cs))) ∙ given_whole row_times times_bounded times in

@@ -2,9 +2,9 @@
 use Prim.Native.Nat.{ℕ, ◌/◌, ◌%◌, ◌<◌}
 use native.Mathlib.Omega.{arith}
 use mathlib.Core.Path.{◌≡◌, sym, ap, ◌∙◌}
-use mathlib.Core.Bool.{Bool, true, false, cond, not, ◌&&◌}
+use mathlib.Core.Bool.{Bool, true, false, cond, ◌&&◌}
 use mathlib.Core.List.{List}
-use lib.Dec.{leb, eqb}
+use lib.Dec.{leb}
 use lib.ListN.{length, replicate}
 use borrow.Author.Tests.{eq-eqb, ne_eqb, leb-false}
 use Rattle.base_lists.proofs.Tests.{by_test}
@@ -41,7 +41,8 @@ module _ (n : ℕ) (times records : List ℕ) where
       unfolding filled_of
       fill_blank e = rw (ne_eqb (length times) 0 some, eq-eqb (n % cells_per_block) 0 e)
 
-      pub fill_behind : (n % cells_per_block ≡ 0 → ⊥) → batch_put_of last n times records ≡ filled_of last n times records
+      pub fill_behind : (n % cells_per_block ≡ 0 → ⊥)
+          → batch_put_of last n times records ≡ filled_of last n times records
       unfolding filled_of
       fill_behind h = rw (ne_eqb (length times) 0 some, ne_eqb (n % cells_per_block) 0 h)
 

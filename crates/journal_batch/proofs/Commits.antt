@@ -2,9 +2,9 @@
 use Prim.Native.Nat.{ℕ, ◌+◌, ◌*◌, ◌/◌, ◌%◌, ◌≤◌, ◌<◌}
 use native.Mathlib.Omega.{arith}
 use mathlib.Core.Path.{◌≡◌, refl, sym, ap, ap₂, subst, ◌∙◌}
-use mathlib.Core.Bool.{Bool, true, false, cond, not, ◌&&◌}
+use mathlib.Core.Bool.{Bool, true, false, cond, ◌&&◌}
 use mathlib.Core.List.{List, [], ◌++◌}
-use lib.Dec.{leb, ltb, eqb}
+use lib.Dec.{leb, ltb}
 use lib.ListN.{length, drop, length-append, length-drop}
 use borrow.Author.Tests.{ltb-true, ltb-false, eq-eqb, lt-leb, le-leb}
 use Rattle.base_lists.specs.Lists.{all}
@@ -19,7 +19,7 @@ use Rattle.archive_fill.specs.Claims.{with_block}
 use Rattle.archive_fill.proofs.Records.{rows-count}
 use Rattle.journal_model.specs.Disk as disk
 use Rattle.journal_model.specs.Disk.{State, Disk, counted, whole_blocks, leftovers, agreeing, staying, going, aside_with, next_lines, state_after_lines, blocks_written, written_end, with_rows, last_block_of, committed}
-use Rattle.journal_model.specs.Claims.{last_block, padded_files, IsPlant, Stands, rows_after, kept_state, Counts}
+use Rattle.journal_model.specs.Claims.{last_block, padded_files, rows_after, kept_state, Counts}
 use Rattle.journal_model.proofs.Kept.{Holds, fits, rows_fit, rows_next, taken_next, fit_next, end_is, last_written, state_next, new_rows}
 use Rattle.journal_model.proofs.Counted.{left_is, fit_all, with_rows_lem}
 use Rattle.journal_model.proofs.Claims.{counts_at, batched}
@@ -89,7 +89,8 @@ module _ (before : List Row) (log : List (List ℕ)) (d : Disk) (count : ℕ) (t
 
   new_is : new ≡ new_rows max_blocks before log ok n count
   new_is =
-      ap (λ (s : State). disk.new_rows s (next_lines log s count)) state_is ∙ taken_next max_blocks before log ok n count
+      ap (λ (s : State). disk.new_rows s (next_lines log s count)) state_is
+      ∙ taken_next max_blocks before log ok n count
 
   fit : Fits (rows ++ new)
   fit = subst (λ (l : List Row). Fits (rows ++ l)) (sym new_is) (fit_next max_blocks before log ok n count)
@@ -144,7 +145,8 @@ module _ (before : List Row) (log : List (List ℕ)) (d : Disk) (count : ℕ) (t
       by_test {X = Fits (rows ++ staying new old)} (leb (length new) (agreeing new old))
       (λ t. rw t (fit_all max_blocks rows old d counts)) (λ f. rw f fit)
 
-  archive_after : (after before log d count).archive ≡ padded_files max_blocks (block_length * m) (rows ++ staying new old)
+  archive_after : (after before log d count).archive
+      ≡ padded_files max_blocks (block_length * m) (rows ++ staying new old)
   archive_after =
       ap (λ (l : List Row). with_rows d (block_length * m) (staying new l)) old_is
       ∙ with_rows_lem max_blocks rows old d counts (block_length * m) (staying new old) fit-staying

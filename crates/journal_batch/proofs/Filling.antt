@@ -5,10 +5,10 @@ use Prim.Native.Nat.{ℕ, ◌+◌, ◌-◌, ◌*◌, ◌/◌, ◌%◌, ◌^◌, 
 use native.Mathlib.Nat.{mod-eq_of_lt}
 use native.Mathlib.Omega.{arith}
 use mathlib.Core.Path.{◌≡◌, refl, sym, ap, ap₂, subst, ◌∙◌}
-use mathlib.Core.Bool.{Bool, true, cond, not, ◌&&◌}
+use mathlib.Core.Bool.{true, cond}
 use mathlib.Core.List.{List, [], ◌∷◌, ◌++◌, append-nil}
 use lib.Dec.{eqb, ltb}
-use lib.ListN.{length, take, drop, replicate, get_or, length-append, length-take, length-drop, drop_of_length-le}
+use lib.ListN.{length, take, drop, replicate, get_or, length-append, length-take, length-drop}
 use lib.Seq.{take_at, drop_at, drop-append-add}
 use borrow.Author.Tests.{eqb-true, eqb-false, eq-eqb, lt-ltb, le-ltb}
 use Rattle.base_lists.specs.Lists.{all}
@@ -20,7 +20,7 @@ use Rattle.block_layout.specs.Block.{cells_per_block, block_length}
 use Rattle.archive_model.specs.Row.{Row, rows_block, is_row}
 use Rattle.archive_model.specs.Buffer.{blocks_for, max_blocks, max_rows, rows_at, buffer_of, rows_in}
 use Rattle.archive_model.specs.Append.{verdict, block_at, is_next, put_row, stored}
-use Rattle.archive_model.proofs.Blocks.{Fits, no_row, all_from, number-back, count-back, rows-block-length}
+use Rattle.archive_model.proofs.Blocks.{Fits, no_row, all_from, number-back, count-back}
 use Rattle.archive_model.proofs.Buffers.{blank_is, group_few, group_fits, group_length, buffer-length, used-block, free_block, rows_in_lem}
 use Rattle.archive_model.proofs.Cursor.{written-verdict}
 use Rattle.archive_model.proofs.Claims.{exact}
@@ -31,9 +31,9 @@ use Rattle.archive_fill.proofs.Together.{row-long, put-length}
 use Rattle.archive_fill.proofs.InArchive.{grown_by}
 use Rattle.archive_cut.proofs.Cutting.{first_fits}
 use Rattle.journal_model.specs.Claims.{last_block, file_block, files_of, padded_files}
-use Rattle.journal_model.proofs.Blocks.{front, front_prefix, front_length, archive-length, archive_last, last_some, is_buffer, buffer_front}
+use Rattle.journal_model.proofs.Blocks.{front, front_prefix, archive-length, archive_last, last_some, is_buffer, buffer_front}
 use Rattle.journal_model.proofs.Files.{rest_fits}
-use Rattle.journal_batch.specs.Batch.{Filled, batch_put_of, filled_of}
+use Rattle.journal_batch.specs.Batch.{batch_put_of, filled_of}
 
 -- ---- rows in any block
 
@@ -213,7 +213,8 @@ module _ (rows new : List Row) (fit : Fits (rows ++ new)) (some : 1 ≤ length n
       = buffer_front max_blocks (rows ++ behind) (block_length * m) j ok (omega (arith, length-append rows behind))
       ∙ front_prefix max_blocks rows behind j (omega arith) ∙ sym (front_prefix max_blocks rows new j (omega arith)) in
       let last_one : blocks_for (length (rows ++ new)) - 1 ≡ j = omega (arith, b) in
-      let whole : front max_blocks j (rows ++ new) ++ last_block max_blocks (rows ++ new) ≡ files_of max_blocks (rows ++ new)
+      let whole : front max_blocks j (rows ++ new) ++ last_block max_blocks (rows ++ new)
+      ≡ files_of max_blocks (rows ++ new)
       = ap (λ (x : List ℕ). front max_blocks j (rows ++ new) ++ x) (sym last_is)
       ∙ sym (archive_last max_blocks (rows ++ new) (omega (arith, all_long))
       ∙ ap (λ (k : ℕ). front max_blocks k (rows ++ new) ++ file_block max_blocks (rows ++ new) k) last_one) in
@@ -227,14 +228,16 @@ module _ (rows new : List Row) (fit : Fits (rows ++ new)) (some : 1 ≤ length n
       ∙ drop-replicate (block_length * j + block_length - length files) (block_length * m - length files) 0
       ∙ ap (λ (k : ℕ). replicate {A = ℕ} k 0) left_over in
       ap₂ (λ (x y : List ℕ). x ++ last_block max_blocks (rows ++ new) ++ y) front_is tail_is
-      ∙ ap (λ (x : List ℕ). x ++ replicate {A = ℕ} (block_length * m - length (files_of max_blocks (rows ++ new))) 0) whole
+      ∙ ap (λ (x : List ℕ). x ++ replicate {A = ℕ}
+      (block_length * m - length (files_of max_blocks (rows ++ new))) 0) whole
       ∙ is_buffer max_blocks (block_length * m) (rows ++ new)
 
 -- ---- rows that are given
 
 module _ (rows new : List Row) (times records : List ℕ) (given : rows_given times records ≡ new)
     (sized : length records ≡ row_length * length times) (fit : Fits (rows ++ new))
-    (few : length rows % cells_per_block + length new ≤ cells_per_block) (room : length rows + length new ≤ max_rows) where
+    (few : length rows % cells_per_block + length new ≤ cells_per_block)
+    (room : length rows + length new ≤ max_rows) where
   count : length times ≡ length new
   count = sym (rows-count times records) ∙ ap length given
 

@@ -1,5 +1,7 @@
 // A batch of the plant's tool with an archive of one file, on the bytes of its files. It makes the calls that the tool makes (docs/CRASH.md, "A
 // commit"): it compares leftovers, writes the rows to the archive, then writes the state.
+#![tactic(auto)]
+
 ghost use Rattle.std.specs.Prelude.{◌≡◌, true, cond, ◌<◌, replicate};
 ghost use Rattle.block_layout.specs.Block.{block_length};
 ghost use Rattle.archive_fill.specs.Claims.{with_block};

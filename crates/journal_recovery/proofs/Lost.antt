@@ -40,7 +40,8 @@ module _ (at : ℕ) (file : List ℕ) where
     enough : leb (block_length * (at + 1)) (length file) ≡ true
     enough = le-leb (block_length * (at + 1)) (length file) (omega arith)
 
-    pub lost_rows : (n : ℕ) → open_result (Rows n) ≡ open_of front → not (eqb n (cells_per_block * at)) ≡ lost_at at file
+    pub lost_rows : (n : ℕ) → open_result (Rows n) ≡ open_of front
+        → not (eqb n (cells_per_block * at)) ≡ lost_at at file
     lost_rows n e =
         let o = opened_rows front n e in
         ap (λ (k : ℕ). not (eqb k (cells_per_block * at))) o.1 ∙ rw (enough, eq-eqb (verdict front).number 0 o.0)

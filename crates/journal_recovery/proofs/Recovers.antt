@@ -6,7 +6,7 @@ use native.Mathlib.Omega.{arith}
 use mathlib.Core.Path.{◌≡◌, refl, sym, ap, ap₂, subst, ◌∙◌}
 use mathlib.Core.Bool.{true, not, ◌&&◌, ◌||◌}
 use mathlib.Core.List.{List, [], ◌++◌}
-use lib.Dec.{eqb, leb}
+use lib.Dec.{eqb}
 use lib.ListN.{length, take, drop, replicate, length-drop}
 use lib.Seq.{drop_at}
 use borrow.Author.Tests.{eqb-false, eq-eqb, ne_eqb}
@@ -18,23 +18,23 @@ use Rattle.collector_model.specs.Reference.{log_of, model_view}
 use Rattle.collector_model.proofs.Invariant.{Good, good_acceptable, good_fresh}
 use Rattle.collector_model.proofs.Image.{fits_layout, accepts-image}
 use Rattle.collector_model.proofs.Theorem.{fresh-model}
-use Rattle.archive_model.specs.Row.{Row, rows_block, block_number, row_count, is_sound, is_blank}
+use Rattle.archive_model.specs.Row.{Row, block_number, row_count, is_sound, is_blank}
 use Rattle.archive_model.specs.Buffer.{blocks_for, max_blocks, max_rows, rows_at}
 use Rattle.archive_model.proofs.Blocks.{Fits, number-back, count-back, block_sound}
 use Rattle.archive_model.proofs.Buffers.{group_few, group_fits, group_length}
 use Rattle.text_collect.specs.Printed.{past_after_lines}
-use Rattle.journal_model.specs.Disk.{State, Disk, collector_in, counted, whole_blocks, tail_rows, leftovers}
+use Rattle.journal_model.specs.Disk.{State, collector_in, counted, whole_blocks, leftovers}
 use Rattle.journal_model.specs.Crash.{leaving_all}
-use Rattle.journal_model.specs.Claims.{last_block, file_block, padded_files, IsPlant, rows_after, kept_state, Crashed}
+use Rattle.journal_model.specs.Claims.{last_block, file_block, padded_files, IsPlant, rows_after, kept_state}
 use Rattle.journal_model.proofs.Rows.{took_all}
 use Rattle.journal_model.proofs.Kept.{Holds, unfits, rows_fit, kept_holds}
 use Rattle.journal_model.proofs.Recovery.{Left}
 use Rattle.journal_model.proofs.Foreign.{not-foreign}
 use Rattle.journal_model.proofs.Start.{tail_left, behind, behind_fits, recovers}
-use Rattle.journal_model.proofs.Claims.{Reached, crash_reached, survives, cut_state}
-use Rattle.journal_state.specs.State.{Kept, had, began, name_length, max_name, state_length, old_length, state_bytes, read_state}
-use Rattle.journal_state.specs.Lawful.{image_rows, is_last_of, is_file, is_attached, is_lawful_state}
-use Rattle.journal_state.specs.Calls.{Accepted, accept_of}
+use Rattle.journal_model.proofs.Claims.{crash_reached, survives, cut_state}
+use Rattle.journal_state.specs.State.{Kept, had, began, name_length, state_length, old_length, state_bytes, read_state}
+use Rattle.journal_state.specs.Lawful.{image_rows, is_last_of, is_file, is_lawful_state}
+use Rattle.journal_state.specs.Calls.{Accepted}
 use Rattle.journal_state.specs.Claims.{state_of}
 use Rattle.journal_state.proofs.Laws.{held, file_last, name_some, law_out}
 use Rattle.journal_state.proofs.Read.{state-length}

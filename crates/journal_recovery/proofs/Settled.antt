@@ -140,7 +140,8 @@ module _ (n : ℕ) (copy : List ℕ) (long : length copy ≡ block_length) (s : 
     none t =
         let z = eqb-true n 0 t in
         let e : 0 ≡ at = omega arith in
-        let is : after ≡ file = ap (λ (k : Judgement). with_block at (mended_by k copy (block_at at file)) file) (blank z)
+        let is : after ≡ file = ap (λ (k : Judgement). with_block at (mended_by k copy (block_at at file)) file)
+        (blank z)
         ∙ same_block at file in
         record {
           whole = ap whole_blocks is;

@@ -114,7 +114,8 @@ module _ (bytes : List ℕ) where
       start_refused h = rw (fits, ne_eqb (accept_number bytes) 0 h)
 
       module _ (accepted : accept_number bytes ≡ 0) where
-        pub start_other : is_one_file (read_state bytes) ≡ false → beside (number_of Argument) ≡ start_result bytes file left
+        pub start_other : is_one_file (read_state bytes) ≡ false
+            → beside (number_of Argument) ≡ start_result bytes file left
         unfolding start_result
         start_other h = rw (fits, eq-eqb (accept_number bytes) 0 accepted, h)
 

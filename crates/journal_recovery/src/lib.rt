@@ -1,5 +1,7 @@
 // A whole start of the plant's tool with an archive of one file, on the bytes of its files. It makes the calls that the tool makes (docs/CRASH.md).
 // The model of the disk and the crash theorems are in journal_model.
+#![tactic(auto)]
+
 ghost use Rattle.std.specs.Prelude.{◌≡◌, [], ◌+◌, ◌-◌, ◌≤◌, ◌<◌, length, get_or};
 ghost use Rattle.block_layout.specs.Block.{block_length};
 ghost use Rattle.archive_model.specs.Buffer.{blocks_for, max_blocks, max_rows};
