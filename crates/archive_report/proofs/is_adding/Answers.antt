@@ -76,7 +76,11 @@ returns c =
     let equal : c.args.a.kept + c.args.a.loose ≡ rows_so_far (adding_of c.args.a) =
     omega (arith, c.rows_of-rows.ensures, c.if-rows-a.false, c.if-rows-a-2.false) in
     c.are_lines.ensures
-    ∙ adding-tally (adding_of c.args.a) (sym c.is_report.ensures ∙ c.if-not-is_report.false) (sym c.is_scan.ensures ∙ c.if-not-is_scan.false) (omega (arith, lines-count c.args.a.lines 0 c.args.a.count, c.if-a-gt-MAX_LINES.false)) equal
+    ∙ adding-tally (adding_of c.args.a)
+    (sym c.is_report.ensures ∙ c.if-not-is_report.false)
+    (sym c.is_scan.ensures ∙ c.if-not-is_scan.false)
+    (omega (arith, lines-count c.args.a.lines 0 c.args.a.count, c.if-a-gt-MAX_LINES.false))
+    equal
 
 pub overflow_add-before : goal.overflow_add-before
 overflow_add-before c = omega (

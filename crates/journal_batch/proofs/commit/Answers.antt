@@ -65,11 +65,15 @@ beside s n = record {
 
 -- ---- rows that are compared
 
-is_told : (c : After-compare-compared) → record {
-  number = c.compare-compared.result;
-  agreed = c.compare-compared.new.agreed;
-  going = c.compare-compared.new.going;
-} ≡ told c.before.before.before.before.before.before.before.before
+is_told : (c : After-compare-compared)
+    → (
+    let c_back3 = c.before.before.before in
+    let c_back6 = c_back3.before.before.before in
+    record {
+      number = c.compare-compared.result;
+      agreed = c.compare-compared.new.agreed;
+      going = c.compare-compared.new.going;
+    } ≡ told c_back6.before.before)
 is_told c = c.compare-compared.ensures
 
 number_is : (c : After-compare-compared) → (

@@ -62,7 +62,9 @@ returns c =
           ∙ ap (λ (k : ℕ). length (run_rows k (file c_back3.before.before.before)) - (n - cells_per_block * k))
           (at_is c_back3.before.before.before);
       bytes =
-          swept (at c_back3.before.before.before) (file c_back3.before.before.before) (inside c_back3.before.before.before) (end c_back3.before.before.before) (ap (λ (k : ℕ). at c_back3.before.before.before + k) (counts c_back3.before.before.before).blocks) _ b
+          swept (at c_back3.before.before.before) (file c_back3.before.before.before)
+          (inside c_back3.before.before.before) (end c_back3.before.before.before)
+          (ap (λ (k : ℕ). at c_back3.before.before.before + k) (counts c_back3.before.before.before).blocks) _ b
           ∙ ap (λ (k : ℕ). swept_at k (file c_back3.before.before.before)) (at_is c_back3.before.before.before);
     }
 
