@@ -4,8 +4,8 @@
 --     finish-no, finish-none, finish-short, finish-last     the answers at the end
 use Prim.Native.Nat.{ℕ, ◌+◌, ◌*◌, ◌/◌, ◌%◌, ◌≤◌, ◌<◌}
 use native.Mathlib.Omega.{arith}
-use mathlib.Core.Path.{◌≡◌, refl, sym, ap, ap₂, ◌∙◌}
-use mathlib.Core.Bool.{Bool, true, false, ◌&&◌}
+use mathlib.Core.Path.{◌≡◌, sym, ap, ap₂, ◌∙◌}
+use mathlib.Core.Bool.{true, false}
 use mathlib.Core.List.{List, ◌++◌}
 use lib.Dec.{leb, ltb, eqb}
 use lib.ListN.{length, take, drop}
@@ -17,7 +17,7 @@ use Rattle.block_layout.specs.Cell.{cell_length}
 use Rattle.block_layout.specs.Block.{cells_per_block, block_length}
 use Rattle.archive_model.specs.Buffer.{max_blocks, max_rows}
 use Rattle.archive_repack_model.specs.Repack.{dropped, fronted, max_identities}
-use Rattle.archive_repack_model.specs.Packer.{pending_length, packing, cells_block, pushed_blocks, pushed, waiting_block, kept_cells, has_blocks, is_packing, Packed, kept_as, packed_as, pack_of, Finished, finish_of}
+use Rattle.archive_repack_model.specs.Packer.{pending_length, packing, cells_block, pushed_blocks, pushed, waiting_block, kept_cells, has_blocks, is_packing, Packed, kept_as, packed_as, pack_of, finish_of}
 use Rattle.archive_repack.proofs.Closing.{last_none, last_some, last_long}
 
 module _ (next used : ℕ) (pending : List ℕ) where

@@ -1,4 +1,6 @@
 // Packs archives again (document 02, A9 and A11): salvages a damaged one, and removes the rows of sensors that left. One packer does both.
+#![tactic(auto)]
+
 ghost use Rattle.std.specs.Prelude.{◌≡◌, true, cond, ◌++◌, ◌+◌, ◌-◌, ◌*◌, ◌/◌, ◌%◌, ◌^◌, ◌≤◌, ◌<◌, leb, eqb, length, take, drop};
 ghost use Rattle.base_lists.specs.Lists as lists;
 ghost use Rattle.block_layout.specs.Cell.{cell_length};

@@ -1,5 +1,5 @@
 -- Records by their fields; answers and lent memory, by the number; a row's bytes, zero filled.
-use mathlib.Core.Path.{◌≡◌, sym, ap, ap₂, ◌∙◌}
+use mathlib.Core.Path.{◌≡◌, ap, ap₂, ◌∙◌}
 use mathlib.Core.Bool.{Bool, true, false}
 use mathlib.Core.List.{List, [], ◌∷◌, ◌++◌}
 use Prim.Native.Nat.{ℕ}
@@ -27,11 +27,13 @@ opening number position rows = record { number = number; position = position; ro
 abbrev pub removal : ℕ → ℕ → ℕ → List ℕ → Removed
 removal number position freed buffer = record { number = number; position = position; freed = freed; buffer = buffer }
 
-module _ (why : Refusal) (k old : ℕ) {n p : ℕ} (is : n ≡ number_of why) (at : p ≡ if_mismatch (number_of why) k old) where
+module _ (why : Refusal) (k old : ℕ) {n p : ℕ} (is : n ≡ number_of why)
+    (at : p ≡ if_mismatch (number_of why) k old) where
   pub open_not : (rows : ℕ) → opening n p rows ≡ open_call (opening (number_of why) k 0) rows old
   open_not rows = rw (ne_eqb (number_of why) 0 (refused-number why), is, at)
 
-  pub append_not : (buffer : List ℕ) → refused_append n p buffer ≡ append_call (refused_append (number_of why) k buffer) old
+  pub append_not : (buffer : List ℕ) → refused_append n p buffer
+      ≡ append_call (refused_append (number_of why) k buffer) old
   append_not buffer = rw (is, at)
 
   pub remove_not : (freed : ℕ) (buffer : List ℕ)

@@ -1,4 +1,6 @@
 // Archives on plain numbers and bytes, as other languages call them.
+#![tactic(auto)]
+
 ghost use Rattle.std.specs.Prelude.{◌≡◌, cond, List, ℕ, ltb, length, take};
 ghost use Rattle.base_buffers.specs.Buffer.{resized};
 ghost use Rattle.block_layout.specs.Cell.{cell_capacity};

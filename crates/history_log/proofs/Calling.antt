@@ -104,7 +104,8 @@ module _ {s : Arrays} {setting : ℕ} {input : List ℕ} {most : ℕ} {out momen
   abbrev text : List ℕ
   text = take used input
 
-  taken : HeardIn (format_of 0) (phase_at setting s) (columns_at s) input most out moments rows closed out' moments' rows'
+  taken : HeardIn (format_of 0) (phase_at setting s)
+      (columns_at s) input most out moments rows closed out' moments' rows'
       closed' (phase_at setting s') (columns_at s') used (get_or done' 1 0) count (get_or done' 3 0) closings
   taken = l.taken (l.answer ∙ rw (
     k.accepted,

@@ -306,7 +306,8 @@ module _ (log archive heard name bytes : List ℕ) {n : ℕ} (h : Holds archive 
 
 pub parked_is : (v : View) (image : List ℕ) {number : ℕ} {output : List ℕ} → acceptable v ≡ true
     → image_length ≤ length image
-    → record { number = number; output = output } ≡ checkpoint_of v image → output ≡ image_of v ++ drop image_length image
+    → record { number = number; output = output } ≡ checkpoint_of v image
+    → output ≡ image_of v ++ drop image_length image
 unfolding checkpoint_of
 parked_is v image a room e =
     ap (λ (x : CheckpointResult). x.output) e ∙ rw (a, le-ltb (length image) image_length room)

@@ -367,7 +367,8 @@ module _ (log archive name : List ℕ) (right : (verdict archive).number ≡ 0)
       ap (λ (l : List (List ℕ)). before ++ model_rows [] l) (take_all count (lines_of text) (omega arith))
       ∙ ap (λ (l : List Row). before ++ l) (all_archived log)
 
-  image_is : image_of (model_view (log_of (past_after_lines [] (take count (lines_of text))))) ≡ image_of (state_after_log log)
+  image_is : image_of (model_view (log_of (past_after_lines [] (take count (lines_of text)))))
+      ≡ image_of (state_after_log log)
   image_is =
       ap (λ (l : List (List ℕ)). image_of (model_view (log_of (past_after_lines [] l))))
       (take_all count (lines_of text) (omega arith))

@@ -79,7 +79,13 @@ module _ (p : Program (Phase Receiver)) (b : Bounded p line_limit) where
   out-more {s} {s'} {x} {t} y d =
       let f = feed_text p line_limit (at_line_start s') y in
       sym (all_given s (x ++ y))
-      ∙ rw (text_append p line_limit x y (at_line_start s), feed_append p line_limit x y (at_line_start s), d.state, d.text)
+      ∙ rw (
+        text_append p line_limit x y (at_line_start s),
+        feed_append p line_limit x y
+            (at_line_start s),
+        d.state,
+        d.text,
+      )
       (append_assoc t f (end_text p (feed p line_limit (at_line_start s') y)))
       ∙ ap (λ (l : List ℕ). t ++ l) (all_given s' y)
 
@@ -155,7 +161,8 @@ not_open (c ∷ l) = go (eqb c newline) (not_open l)
     go false e = e
 
 module _ (p : Program (Phase Receiver)) (s s' : Phase Receiver) where
-  part_is_none : (l : List ℕ) → is_unended l ≡ true → feed p line_limit (at_line_start s) l ≡ at_line_start s' → length l ≡ 0
+  part_is_none : (l : List ℕ) → is_unended l ≡ true → feed p line_limit (at_line_start s) l ≡ at_line_start s'
+      → length l ≡ 0
   part_is_none l o e =
       let f = rw (take-nil {A = ℕ} line_limit) at (feed_open p line_limit l [] s o) in
       let k : take line_limit l ≡ [] = ap (λ (a : Position (Phase Receiver)). a.line) (sym f ∙ e) in

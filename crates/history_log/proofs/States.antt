@@ -2,7 +2,7 @@
 --     state-more, state-last, state-none     the image behind whole lines; behind a last line; where nothing is left
 --     state-whole                            a log: the reference model's collector
 --     first-state, none-state                behind the first line of a log; where that is not right
-use Prim.Native.Nat.{ℕ, ◌+◌, ◌≤◌, ◌<◌}
+use Prim.Native.Nat.{ℕ, ◌≤◌, ◌<◌}
 use mathlib.Core.Path.{◌≡◌, refl, ap, ◌∙◌}
 use mathlib.Core.Bool.{Bool, true, false, cond}
 use mathlib.Core.List.{List, [], ◌∷◌, ◌++◌}
@@ -50,7 +50,8 @@ text-states (c ∷ x) a = go (eqb c newline) (text-states x (fed states line_lim
     go true e = e
     go false e = e
 
-pub state-more : (s s' : Phase Receiver) (x y : List ℕ) → feed row_times line_limit (at_line_start s) x ≡ at_line_start s'
+pub state-more : (s s' : Phase Receiver) (x y : List ℕ)
+    → feed row_times line_limit (at_line_start s) x ≡ at_line_start s'
     → output_of states s (x ++ y) ≡ output_of states s' y
 state-more s s' x y e =
     let d : Drained states line_limit s x s' [] =
@@ -99,7 +100,8 @@ first_after (Setting.Level n) ls =
     ∙ ap image_of (took_all ls [] good_start).view
 first_after Setting.Bad ls = ap image_at (over_after ls) ∙ ap image_of fresh-model
 
-lines_after : (ls : List (List ℕ)) → image_at (state_after states starting ls) ≡ image_of (model_view (log_of (past_for ls)))
+lines_after : (ls : List (List ℕ)) → image_at (state_after states starting ls)
+    ≡ image_of (model_view (log_of (past_for ls)))
 unfolding state_after
 lines_after [] = ap image_of fresh-model
 lines_after (l ∷ ls) = first_after (setting_of l) ls

@@ -1,4 +1,6 @@
 // A whole log kept in an archive, by the calls that ship and nothing else: what the plant's tool does when nothing disturbs it.
+#![tactic(auto)]
+
 ghost use Rattle.std.specs.Prelude.{◌≡◌, true, cond, [], ◌∷◌, ◌++◌, ◌+◌, ◌*◌, ◌/◌, ◌≤◌, ◌<◌, min, length, take, drop};
 ghost use Rattle.std.proofs.lemmas.List.Edits.{sets};
 ghost use Rattle.block_layout.specs.Cell.{cell_length};
