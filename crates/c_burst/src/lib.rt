@@ -1,4 +1,6 @@
 // A burst of receptions at a collector in five lent arrays, as other languages call it.
+#![tactic(auto)]
+
 ghost use Rattle.std.specs.Prelude.{◌≡◌, true, List, ℕ, ◌*◌, ◌≤◌, ◌<◌, length, get_or, drop};
 ghost use Rattle.radio_erp1.specs.Subtelegram.{max_length};
 ghost use Rattle.base_buffers.specs.Buffer.{part};

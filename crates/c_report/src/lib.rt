@@ -1,4 +1,6 @@
 // Reports on plain numbers and bytes, as other languages call them. A report is in two lent arrays: its numbers and its lines.
+#![tactic(auto)]
+
 ghost use Rattle.std.specs.Prelude.{◌≡◌};
 ghost use Rattle.archive_report_model.specs.Report as model;
 ghost use Rattle.archive_report.specs.Report.{report_of, archive_outcome_number, archive_outcome_position, looked_number};

@@ -22,6 +22,8 @@ use Rattle.cases.specs.Layouts.{layouts, EveryLayout}
 
 -- each row's two sides are equal
 pub every_layout : EveryLayout
-unfolding flatten up_from remainder_of step_of resized be unbe unbe_from cell_of sealed block_of frame_of fields_of erp2_check
-    erp2_fields read_of header_of image_block image_with frame_bytes fields_bytes head_bytes erp2_fields_bytes reply_bytes row_bytes
+unfolding flatten up_from remainder_of step_of resized be unbe unbe_from cell_of sealed block_of frame_of fields_of
+    erp2_check
+    erp2_fields read_of header_of image_block image_with frame_bytes fields_bytes head_bytes erp2_fields_bytes
+    reply_bytes row_bytes
 every_layout k h d = equal_eq _ _ (at (λ i c. equal c.got c.want) d layouts tt k h)

@@ -1,7 +1,7 @@
 -- The cases of document 01, "Cases, P marks those proved", as document 02 changes them, and figures of document 02.
 -- Each row has what a definition gives and what the documents say. The last three rows are our own cases of ERP2
 -- telegrams.
-use Rattle.std.specs.Prelude.{ℕ, ◌+◌, ◌<◌, ◌≡◌, List, [], ◌∷◌, ◌++◌, cond, length, take, replicate, get_or}
+use Rattle.std.specs.Prelude.{ℕ, ◌<◌, ◌≡◌, List, [], ◌∷◌, ◌++◌, cond, length, take, replicate, get_or}
 use Rattle.base_crc8.specs.Crc8.{crc_of}
 use Rattle.radio_erp1.specs.Subtelegram.{hash_of, check_of}
 use Rattle.radio_telegram.specs.Addressing.{encapsulated}

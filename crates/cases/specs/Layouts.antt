@@ -1,6 +1,6 @@
 -- Where values are in memory and in files: a value of each of twelve kinds, and a checkpoint, worked out by hand from
 -- docs/FORMATS.md and include/mooringeye.h. A law that reading undoes writing would hold for another layout too.
-use Rattle.std.specs.Prelude.{ℕ, ◌<◌, ◌≡◌, true, false, List, [], ◌∷◌, ◌++◌, map, length, take, replicate, get_or}
+use Rattle.std.specs.Prelude.{ℕ, ◌<◌, ◌≡◌, true, List, [], ◌∷◌, ◌++◌, map, length, take, replicate, get_or}
 use Rattle.base_buffers.specs.Buffer.{part}
 use Rattle.radio_telegram.specs.Frame.{frame_of}
 use Rattle.radio_telegram.specs.Fields.{fields_of}

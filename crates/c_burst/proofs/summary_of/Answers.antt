@@ -1,0 +1,36 @@
+-- `c_burst::summary_of` meets its contract: what is known of each number by its type.
+use mathlib.Core.Path.{subst}
+use Prim.Native.Nat.{◌^◌, ◌<◌}
+use native.Mathlib.Omega.{arith}
+use borrow.Author.Rules.{rules}
+use Rattle.collector_model.specs.Exact.{Fits}
+use Rattle.collector_state.specs.declared.Summary.{Summary}
+use Rattle.collector_state.specs.Collector.{columns, view_in, view_of}
+use Rattle.collector_state.specs.Admission.{collector_of}
+use Rattle.collector_state.proofs.Counts.{state-fits}
+use Rattle.c_burst.proofs.summary_of.Lts as lts
+use Rattle.c_burst.proofs.summary_of.Reads as reads
+use Rattle.c_burst.proofs.summary_of.Tie as tie
+use Rattle.c_burst.proofs.summary_of.Goals as goal
+
+-- states on the way
+abbrev After-summary_in : Type 0
+After-summary_in = lts.After-summary_in tie.the-claims reads.Pre reads.Post
+
+latest : (c : After-summary_in) → c.summary_in.result.latest < 2 ^ 64
+latest c = search rules
+
+received : (c : After-summary_in) → c.summary_in.result.totals.received < 2 ^ 64
+received c = search rules
+
+pub returns : goal.returns
+unfolding view_of
+returns c = (
+  c.summary_in.ensures.0,
+  λ times lengths bytes.
+      let copies = c.args.copies.now in
+      let a = columns times lengths bytes copies in
+      subst (λ (s : Summary). Fits (view_in a s)) c.summary_in.ensures.0
+      (state-fits (collector_of a c.summary_in.result) (latest c.before) (received c.before)
+      (λ i. omega (arith, c.shared_slice_known-1.given i))),
+)
