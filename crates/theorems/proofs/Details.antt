@@ -62,7 +62,7 @@ use Rattle.history_rows.proofs.Recovered as history_rows_recovered
 use Rattle.history_rows.proofs.Closings as history_rows_closings
 use Rattle.history_rows.proofs.Example as history_rows_example
 use Rattle.journal_calls.proofs.Claims as journal_calls
-use Rattle.journal_calls.proofs.Given as goal
+use Rattle.journal_calls.proofs.Given as journal_calls_given
 use Rattle.journal_model.proofs.Alone as journal_model_alone
 use Rattle.journal_model.proofs.Any as journal_model_any
 use Rattle.journal_model.proofs.Claims as journal_model_claims
@@ -225,8 +225,8 @@ journal = record {
   scans_count_the_run = journal_calls.run-counts;
   scans_go_by_pieces = journal_calls.run_joins;
   scans_are_held = journal_calls.run-back;
-  scans_go_on = goal.run-accepted;
-  scans_are_exact = goal.run-given;
+  scans_go_on = journal_calls_given.run-accepted;
+  scans_are_exact = journal_calls_given.run-given;
   formats_are_in_the_file_once = journal_model_out.once_in_format;
   first_line_writes_nothing = journal_model_out.first_line-silent;
   states_read_back = journal_state.state_read;

@@ -1,1 +1,2 @@
 // What is proved, on one page: no code.
+#![tactic(auto)]
