@@ -27,7 +27,8 @@ feed-report a piece = go (not (is_adding a)) (not (is_piece a.tally.scan piece))
     go false true = refl
     go false false = refl
 
-pub feed-kept : (a : Adding) (piece : List ℕ) → ((add_piece_of a piece).number ≡ 0 → ⊥) → (add_piece_of a piece).next ≡ a
+pub feed-kept : (a : Adding) (piece : List ℕ) → ((add_piece_of a piece).number ≡ 0 → ⊥)
+    → (add_piece_of a piece).next ≡ a
 unfolding add_piece_of
 feed-kept a piece n =
     by_test {X = (add_piece_of a piece).next ≡ a} (is_adding a)

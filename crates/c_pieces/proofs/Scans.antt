@@ -15,7 +15,7 @@ use Rattle.base_refusal.specs.declared.Refusal.TheVariants.{Mismatch, NotAccepte
 use Rattle.archive_model.specs.Buffer.{Found, None, Stage, Filling, Short, Ended, Wrong, stage_found}
 use Rattle.archive_model.specs.Append.{is_scan, Feeding}
 use Rattle.archive_file.specs.Archive.{open_found}
-use Rattle.c_pieces.specs.Scan.{stage_at, stage_number, stage_position, scan_at, scan_numbers, ScanCall, scan_shown, scan_end}
+use Rattle.c_pieces.specs.Scan.{stage_at, stage_number, stage_position, scan_at, scan_numbers, scan_shown, scan_end}
 
 module _ (s p : ℕ) where
   pub stage_filling : s ≡ 0 → Filling ≡ stage_at s p
@@ -62,7 +62,8 @@ module _ (numbers : List ℕ) where
     unfolding scan_end
     end_done h =
         rw t
-        (ap (λ (f : Found). open_found f (get_or numbers 1 0)) (sym (none_found (get_or numbers 2 0) (get_or numbers 3 0) h)))
+        (ap (λ (f : Found). open_found f (get_or numbers 1 0))
+        (sym (none_found (get_or numbers 2 0) (get_or numbers 3 0) h)))
 
 -- what is written of a stage is read back
 pub stage-back : (s : Stage) → stage_at (stage_number s) (stage_position s) ≡ s

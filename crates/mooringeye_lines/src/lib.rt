@@ -1,4 +1,6 @@
 // The call that takes lines, for C, Rust and Python, in a crate of its own: compiled by itself, what it calls is inlined.
+#![tactic(auto)]
+
 ghost use Rattle.c_collector.specs.State.{arrays};
 ghost use Rattle.c_lines.specs.Calls.{Lines};
 

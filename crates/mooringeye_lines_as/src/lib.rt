@@ -1,5 +1,7 @@
 // The call that takes lines and writes their rows in a format, for C, Rust and Python, in a crate of its own: compiled by itself, what it calls is
 // inlined.
+#![tactic(auto)]
+
 ghost use Rattle.c_collector.specs.State.{arrays};
 ghost use Rattle.c_lines.specs.Formats.{LinesAs};
 

@@ -1,4 +1,6 @@
 // The calls that take one reception, for C, Rust and Python, in a crate of their own: compiled by itself, what they call is inlined.
+#![tactic(auto)]
+
 ghost use Rattle.std.specs.Prelude.{true};
 ghost use Rattle.c_collector.specs.State.{arrays};
 ghost use Rattle.c_collector.specs.Calls.{Takes, TakesTold};
