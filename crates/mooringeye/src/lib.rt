@@ -1,5 +1,7 @@
 // The interface for other languages, on plain numbers and bytes; `bin/library` builds what is linked. Each call here is a call of a crate below,
 // where the code and its proof are.
+#![tactic(auto)]
+
 pub mod archive;
 pub mod codec;
 pub mod collector;
