@@ -1,6 +1,7 @@
 // Archives for C and Rust, on plain numbers and bytes: for the benchmark, and for the test with a buffer of more addresses than a test program can
 // hold.
-use archive_file::{ArchiveOutcome, Opened};
+
+use archive_file::ArchiveError;
 
 // The CRC over long inputs.
 #[unsafe(no_mangle)]
@@ -11,11 +12,9 @@ pub extern "C" fn archive_bench_crc(bytes: &[u8]) -> u8 {
 // The number of the answer is in the highest byte; below it are the rows, or the position with 12.
 #[unsafe(no_mangle)]
 pub extern "C" fn archive_bench_open(buffer: &[u8]) -> u64 {
-    let answer = archive_file::open(buffer);
-    match answer {
-        Opened::Rows(n) => packed(0, n),
-        Opened::Damaged(k) => packed(12, k),
-        Opened::Refused(why) => packed(base_refusal::number(why), 0),
+    match archive_file::open(buffer) {
+        Ok(n) => packed(0, n),
+        Err(e) => refused(e),
     }
 }
 
@@ -28,11 +27,16 @@ pub extern "C" fn archive_bench_append_at(
     time: u64,
     loose: u8,
 ) -> u64 {
-    let answer = archive_file::append_at(buffer, n as usize, bytes, time, loose != 0);
-    match answer {
-        ArchiveOutcome::Done => 0,
-        ArchiveOutcome::Damaged(k) => packed(12, k),
-        ArchiveOutcome::Refused(why) => packed(base_refusal::number(why), 0),
+    match archive_file::append_at(buffer, n as usize, bytes, time, loose != 0) {
+        Ok(()) => 0,
+        Err(e) => refused(e),
+    }
+}
+
+fn refused(e: ArchiveError) -> u64 {
+    match e {
+        ArchiveError::Damaged(k) => packed(12, k),
+        ArchiveError::Refused(why) => packed(base_refusal::number(why), 0),
     }
 }
 

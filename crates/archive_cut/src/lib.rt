@@ -11,8 +11,8 @@ ghost use Rattle.archive_cut.specs.Cut.{first_rows, cut_block_of, cut_of};
 ghost use Rattle.archive_cut.specs.Calls.{cut_block_result};
 ghost use Rattle.archive_cut.specs.Private.{kept_rows};
 
-use archive_file::{ArchiveOutcome, Opened};
-use base_refusal::{Outcome, Refusal};
+use archive_file::ArchiveError;
+use base_refusal::Refusal;
 use block_layout::{BLOCK_LENGTH, BODY_LENGTH, CELL_LENGTH, CELLS_PER_BLOCK, HEADER_LENGTH};
 
 // Keeps the first `rows` rows of a block: writes their count, zeros after them, and the new CRC.
@@ -40,49 +40,45 @@ fn shorten(block: &mut [u8], rows: usize)
 
 // Cuts one block to its first `rows` rows. For 0 rows it clears the block. Refused: 16 for a wrong length, 12 for a block that isn't sound or has fewer
 // rows. Then the block is unchanged.
-pub fn cut_block(block: &mut [u8], rows: usize) -> Outcome
+pub fn cut_block(block: &mut [u8], rows: usize) -> Result<(), Refusal>
     ensures { cut_block_result result block.new ≡ cut_block_of rows block.old }
 {
     if block.len() != BLOCK_LENGTH {
-        return Outcome::Refused(Refusal::Size);
+        return Err(Refusal::Size);
     }
     let used = archive_file::sound(block);
     if used == 0 {
-        return Outcome::Refused(Refusal::Mismatch);
+        return Err(Refusal::Mismatch);
     }
     if used < rows {
-        return Outcome::Refused(Refusal::Mismatch);
+        return Err(Refusal::Mismatch);
     }
     shorten(block, rows);
-    Outcome::Done
+    Ok(())
 }
 
 // Cuts an archive to its first `rows` rows. Refused: 16 for a wrong length, 12 with the position of the first block that does not match, 10 if it has fewer
 // rows. Then the buffer is unchanged.
-pub fn cut(buffer: &mut [u8], rows: usize) -> ArchiveOutcome
+pub fn cut(buffer: &mut [u8], rows: usize) -> Result<(), ArchiveError>
     ensures { append_result result buffer.new ≡ cut_of rows buffer.old }
 {
-    let opened = archive_file::open(buffer);
-    match opened {
-        Opened::Rows(n) => cut_from(buffer, n, rows),
-        Opened::Damaged(k) => ArchiveOutcome::Damaged(k),
-        Opened::Refused(why) => ArchiveOutcome::Refused(why),
-    }
+    let n = archive_file::open(buffer)?;
+    cut_from(buffer, n, rows)
 }
 
 // Cuts a verified archive, which has `n` rows. Refused: 10 if `n` is less than `rows`.
-fn cut_from(buffer: &mut [u8], n: usize, rows: usize) -> ArchiveOutcome
+fn cut_from(buffer: &mut [u8], n: usize, rows: usize) -> Result<(), ArchiveError>
     requires { ((verdict buffer.old).number ≡ 0) × (n ≡ length (rows_in buffer.old)) }
     ensures { append_result result buffer.new ≡ cut_of rows buffer.old }
 {
     if n < rows {
-        return ArchiveOutcome::Refused(Refusal::Argument);
+        return Err(ArchiveError::Refused(Refusal::Argument));
     }
     if n == rows {
-        return ArchiveOutcome::Done;
+        return Ok(());
     }
     take_back(buffer, rows);
-    ArchiveOutcome::Done
+    Ok(())
 }
 
 // Cuts a verified archive that has more than `rows` rows: block `rows` / 15, which has the first row to go, is cut to `rows` % 15 rows, and the blocks

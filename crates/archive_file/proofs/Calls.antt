@@ -1,3 +1,4 @@
+use Rattle.std.specs.Prelude.{Result, Ok, Err, None, ⊤}
 -- The calls over a whole buffer: the cases of `feed_of`, `open_of`, `append_at_of`, `row_at_of` and `append_of`, each from the facts that its tests give.
 use Prim.Native.Nat.{ℕ, ◌+◌, ◌-◌, ◌*◌, ◌/◌, ◌%◌, ◌^◌, ◌≤◌, ◌<◌}
 use native.Mathlib.Omega.{arith}
@@ -21,11 +22,9 @@ use Rattle.archive_model.specs.Row.{Row}
 use Rattle.archive_model.specs.Buffer.{Found, At, None, max_blocks, max_rows, is_whole, blocks_in, rows_in, mismatch, Scan, scan_blocks}
 use Rattle.archive_model.specs.Append.{Opening, Appended, Feeding, refused_append, stored, found, verdict, open_of, is_next, block_at, put_row, put_row_of, append_of, append_at_of, is_stage, is_scan, feed_of, row_at_of}
 use Rattle.archive_model.proofs.Cursor.{cursor}
-use Rattle.archive_file.specs.declared.Opened.TheVariants as opened
-use Rattle.archive_file.specs.declared.ArchiveOutcome.{ArchiveOutcome}
-use Rattle.archive_file.specs.declared.ArchiveOutcome.TheVariants.{Done, Damaged, Refused}
 use Rattle.archive_file.specs.Archive.{open_result, append_result, open_found}
 use Rattle.archive_file.specs.Private.{no_row_for, row_in_block}
+use Rattle.archive_file.specs.declared.ArchiveError.{ArchiveError}
 
 -- ---- a piece
 
@@ -158,10 +157,11 @@ module _ (buffer : List ℕ) (n : ℕ) (r : Row) where
           rw (span, drop-drop block_length (block_length * k) buffer)
           (sym (append_assoc (take (block_length * k) buffer) ys (drop (block_length * k + block_length) buffer)))
 
-      replaced_is : (out : ArchiveOutcome) (ys : List ℕ) → append_result out (with ys) ≡ replaced (append_result out ys)
-      replaced_is Done ys = refl
-      replaced_is (Damaged j) ys = refl
-      replaced_is (Refused why) ys = refl
+      replaced_is : (out : (Result ⊤ ArchiveError)) (ys : List ℕ)
+          → append_result out (with ys) ≡ replaced (append_result out ys)
+      replaced_is (Ok tt) ys = refl
+      replaced_is (Err (ArchiveError.Damaged j)) ys = refl
+      replaced_is (Err (ArchiveError.Refused why)) ys = refl
 
       block-long : length block ≡ block_length
       block-long = part_length (block_length * k) block_length buffer (omega arith)
@@ -191,7 +191,7 @@ module _ (buffer : List ℕ) (n : ℕ) (r : Row) where
           by_next true false = ap (refused_append (check_of r.bytes) 0) with_same
           by_next true true = ap stored (with_new (put_row n r block))
 
-      pub at_put : (out : ArchiveOutcome) (ys : List ℕ)
+      pub at_put : (out : (Result ⊤ ArchiveError)) (ys : List ℕ)
           → append_result out ys
           ≡ put_row_of (part (block_length * k) (block_length * k + block_length - block_length * k) buffer) n r
           → append_result out (with ys) ≡ append_at_of buffer n r
@@ -219,7 +219,7 @@ module _ (buffer : List ℕ) (i : ℕ) where
 -- ---- what `open` told
 
 module _ (buffer : List ℕ) where
-  pub opened_rows : (n : ℕ) → open_result (opened.Rows n) ≡ open_of buffer
+  pub opened_rows : (n : ℕ) → open_result (Ok n) ≡ open_of buffer
       → ((verdict buffer).number ≡ 0) × (n ≡ length (rows_in buffer))
   unfolding open_of
   opened_rows n e =
@@ -235,12 +235,12 @@ module _ (buffer : List ℕ) where
       let n : number ≡ (verdict buffer).number = ap (λ (o : Opening). o.number) e in
       (n, ap (λ (o : Opening). o.position) e, ne_eqb (verdict buffer).number 0 (λ z. h (n ∙ z)))
 
-  pub opened-refused : (why : Refusal) → open_result (opened.Refused why) ≡ open_of buffer
+  pub opened-refused : (why : Refusal) → open_result (Err (ArchiveError.Refused why)) ≡ open_of buffer
       → (number_of why ≡ (verdict buffer).number) × (0 ≡ (verdict buffer).position)
       × (eqb (verdict buffer).number 0 ≡ false)
   opened-refused why e = opened-not (number_of why) 0 (refused-number why) e
 
-  pub opened-damaged : (k : ℕ) → open_result (opened.Damaged k) ≡ open_of buffer
+  pub opened-damaged : (k : ℕ) → open_result (Err (ArchiveError.Damaged k)) ≡ open_of buffer
       → (number_of Mismatch ≡ (verdict buffer).number) × (k ≡ (verdict buffer).position)
       × (eqb (verdict buffer).number 0 ≡ false)
   opened-damaged k e = opened-not (number_of Mismatch) k (refused-number Mismatch) e
@@ -256,15 +256,12 @@ module _ (buffer : List ℕ) (r : Row) where
   unfolding append_of
   append_not number position v = rw v.2 (ap₂ (λ (x y : ℕ). refused_append x y buffer) v.0 v.1)
 
-  pub append_refused : (why : Refusal) → open_result (opened.Refused why) ≡ open_of buffer
-      → refused_append (number_of why) 0 buffer ≡ append_of buffer r
-  append_refused why e = append_not (number_of why) 0 (opened-refused buffer why e)
+  pub append_error : (e : ArchiveError) → open_result (Err e) ≡ open_of buffer
+      → append_result (Err e) buffer ≡ append_of buffer r
+  append_error (ArchiveError.Damaged k) e = append_not (number_of Mismatch) k (opened-damaged buffer k e)
+  append_error (ArchiveError.Refused why) e = append_not (number_of why) 0 (opened-refused buffer why e)
 
-  pub append_damaged : (k : ℕ) → open_result (opened.Damaged k) ≡ open_of buffer
-      → refused_append (number_of Mismatch) k buffer ≡ append_of buffer r
-  append_damaged k e = append_not (number_of Mismatch) k (opened-damaged buffer k e)
-
-  pub append_rows : (n : ℕ) → open_result (opened.Rows n) ≡ open_of buffer
+  pub append_rows : (n : ℕ) → open_result (Ok n) ≡ open_of buffer
       → r.time < 2 ^ 64 → append_at_of buffer n r ≡ append_of buffer r
   append_rows n e t =
       let o = opened_rows buffer n e in

@@ -2,15 +2,17 @@
 --     sound-le, blank_none                                    the rows of a block: at most 15, and none in an all-zero one
 --     stage-wrong, stage-number, stage-short, stage-full      what a block makes of the stage where all before it are full
 --     scanned-blank, scanned                                  one block more
---     blocks_from, blocks-next, rest-first, rest-next, rest-none   the loop over the blocks: those left; a turn's count; its start, a turn, its end
-use Prim.Native.Nat.{ℕ, suc, ◌+◌, ◌-◌, ◌*◌, ◌/◌, ◌≤◌, ◌<◌}
-use native.Mathlib.Numerals.{add-one}
+--     scanned-count, scan-none, scan-next                     the loop over the blocks: a turn's count; its end, a turn
+--     blocks-none, blocks-next                                the blocks of a piece, the first of them first
+--     blocks_from, rest-first                                 those from a position on
+use Prim.Native.Nat.{ℕ, ◌+◌, ◌-◌, ◌*◌, ◌/◌, ◌≤◌, ◌<◌}
 use native.Mathlib.Omega.{arith}
-use mathlib.Core.Path.{◌≡◌, refl, ap}
+use mathlib.Core.Path.{◌≡◌, refl, ap, ◌∙◌}
 use mathlib.Core.Bool.{true, false}
-use mathlib.Core.List.{List, map}
+use mathlib.Core.List.{List, [], ◌∷◌, ◌++◌, map}
 use lib.Dec.{leb}
 use lib.ListN.{length}
+use lib.Seq.{take_all}
 use borrow.Author.Tests.{eq-eqb, ne_eqb, lt-ltb, le-ltb, leb-true}
 use Rattle.base_lists.specs.Lists.{up_from}
 use Rattle.base_lists.proofs.Choice.{both}
@@ -20,6 +22,7 @@ use Rattle.block_layout.specs.Block.{cells_per_block, block_length}
 use Rattle.archive_model.specs.Row.{block_number, row_count, is_sound, is_blank}
 use Rattle.archive_model.specs.Buffer.{blocks_in, Stage, Filling, Short, Wrong, Scan, stage_after, stage_blank, scan_block, scan_blocks}
 use Rattle.archive_model.proofs.Buffers.{blank_count}
+use Rattle.archive_model.proofs.Pieces.{pieces_blocks}
 use Rattle.archive_file.specs.Archive.{sound_count}
 
 module _ (block : List ℕ) where
@@ -100,28 +103,39 @@ module _ (block : List ℕ) where
 unfoldable pub blocks_from : List ℕ → ℕ → ℕ → List (List ℕ)
 blocks_from piece a n = map (λ k. part (block_length * k) block_length piece) (up_from a n)
 
-pub blocks_next : (r s : Scan) (block : List ℕ) → r ≡ scan_block s block → r.blocks ≡ s.blocks + 1
+pub rest_first : (piece : List ℕ) (n : ℕ) → n ≡ length piece / block_length
+    → blocks_from piece 0 (n - 0) ≡ blocks_in piece
+unfolding blocks_from blocks_in
+rest_first piece n e =
+    let z : n - 0 ≡ length piece / block_length = omega arith in
+    rw z
+
+pub scanned-count : (r s : Scan) (block : List ℕ) → r ≡ scan_block s block → r.blocks ≡ s.blocks + 1
 unfolding scan_block
-blocks_next r s block e = ap (λ (t : Scan). t.blocks) e
+scanned-count r s block e = ap (λ (t : Scan). t.blocks) e
 
-module _ (piece : List ℕ) where
-  pub rest_first : (n : ℕ) → n ≡ length piece / block_length → blocks_from piece 0 (n - 0) ≡ blocks_in piece
-  unfolding blocks_from blocks_in
-  rest_first n e =
-      let z : n - 0 ≡ length piece / block_length = omega arith in
-      rw z
+pub blocks_none : (rest : List ℕ) → length rest < block_length → blocks_in rest ≡ []
+unfolding blocks_in up_from
+blocks_none rest h =
+    let z : length rest / block_length ≡ 0 = omega arith in
+    rw z
 
-  pub rest_next : (s : Scan) (n i : ℕ) → i < n
-      → scan_blocks s (blocks_from piece i (n - i))
-      ≡ scan_blocks (scan_block s (part (block_length * i) block_length piece))
-      (blocks_from piece (i + 1) (n - (i + 1)))
-  unfolding blocks_from up_from scan_blocks
-  rest_next s n i h =
-      let e : n - i ≡ suc (n - (i + 1)) = omega arith in
-      rw (e, add-one)
+pub scan_none : (s : Scan) (rest : List ℕ) → length rest < block_length → scan_blocks s (blocks_in rest) ≡ s
+unfolding scan_blocks
+scan_none s rest h = ap (scan_blocks s) (blocks_none rest h)
 
-  pub rest_none : (s : Scan) (n i : ℕ) → n ≤ i → scan_blocks s (blocks_from piece i (n - i)) ≡ s
-  unfolding blocks_from up_from scan_blocks
-  rest_none s n i h =
-      let e : n - i ≡ 0 = omega arith in
-      rw e
+-- a block, and those of what follows it
+module _ (block rest : List ℕ) (h : length block ≡ block_length) where
+  alone : blocks_in block ≡ block ∷ []
+  unfolding blocks_in up_from
+  alone =
+      let n : length block / block_length ≡ 1 = omega arith in
+      rw n (ap (λ (l : List ℕ). l ∷ []) (take_all block_length block (omega arith)))
+
+  pub blocks_next : blocks_in (block ++ rest) ≡ block ∷ blocks_in rest
+  blocks_next = pieces_blocks block rest (omega arith) ∙ ap (λ (l : List (List ℕ)). l ++ blocks_in rest) alone
+
+  pub scan_next : (s : Scan)
+      → scan_blocks s (blocks_in (block ++ rest)) ≡ scan_blocks (scan_block s block) (blocks_in rest)
+  unfolding scan_blocks
+  scan_next s = ap (scan_blocks s) blocks_next

@@ -1,41 +1,32 @@
 -- The results of the calls on an archive, as the model names them (document 02, A2).
-use Rattle.std.specs.Prelude.{ℕ, Bool, cond, List, eqb, length, replicate}
-use Rattle.base_refusal.specs.Number.{number_of, outcome_number}
+use Rattle.std.specs.Prelude.{ℕ, Bool, false, cond, List, eqb, length, replicate, Result, Ok, Err, ⊤}
+use Rattle.base_refusal.specs.Number.{number_of}
 use Rattle.base_refusal.specs.declared.Refusal.TheVariants.{Mismatch}
 use Rattle.block_layout.specs.Cell.{cell_capacity, cell_field}
 use Rattle.archive_model.specs.Row.{Row, row_count, is_sound}
 use Rattle.archive_model.specs.Buffer as buffer
 use Rattle.archive_model.specs.Append.{Opening, Appended, Feeding, ReadRow}
-use Rattle.archive_file.specs.declared.Opened.{Opened}
-use Rattle.archive_file.specs.declared.Opened.TheVariants as opened
-use Rattle.archive_file.specs.declared.ArchiveOutcome.{ArchiveOutcome}
-use Rattle.archive_file.specs.declared.ArchiveOutcome.TheVariants as outcome
-use Rattle.archive_file.specs.declared.Found.{Found}
-use Rattle.archive_file.specs.declared.Found.TheVariants as found
 use Rattle.archive_file.specs.declared.RowAt.{RowAt}
 use Rattle.archive_file.specs.declared.Stage.{Stage}
 use Rattle.archive_file.specs.declared.Stage.TheVariants as stage
 use Rattle.archive_file.specs.declared.Scan.{Scan}
-use Rattle.archive_file.specs.declared.Fed.{Fed}
+use Rattle.archive_file.specs.declared.ArchiveError.{ArchiveError}
+use Rattle.base_refusal.specs.declared.Refusal.{Refusal}
 
 -- ---- results: the number, the position that goes with 12, and what else is returned
 
-abbrev pub open_result : Opened → Opening
-open_result (opened.Rows n) = record { number = 0; position = 0; rows = n }
-open_result (opened.Damaged k) = record { number = number_of Mismatch; position = k; rows = 0 }
-open_result (opened.Refused why) = record { number = number_of why; position = 0; rows = 0 }
+abbrev pub open_result : Result ℕ ArchiveError → Opening
+open_result (Ok n) = record { number = 0; position = 0; rows = n }
+open_result (Err (ArchiveError.Damaged k)) = record { number = number_of Mismatch; position = k; rows = 0 }
+open_result (Err (ArchiveError.Refused why)) = record { number = number_of why; position = 0; rows = 0 }
 
-abbrev pub append_result : ArchiveOutcome → List ℕ → Appended
-append_result outcome.Done after = record { number = 0; position = 0; buffer = after }
-append_result (outcome.Damaged k) after = record { number = number_of Mismatch; position = k; buffer = after }
-append_result (outcome.Refused why) after = record { number = number_of why; position = 0; buffer = after }
+abbrev pub append_result : Result ⊤ ArchiveError → List ℕ → Appended
+append_result (Ok tt) after = record { number = 0; position = 0; buffer = after }
+append_result (Err (ArchiveError.Damaged k)) after = record { number = number_of Mismatch; position = k; buffer = after }
+append_result (Err (ArchiveError.Refused why)) after = record { number = number_of why; position = 0; buffer = after }
 
 abbrev pub row_of : List ℕ → ℕ → Bool → Row
 row_of bytes time loose = record { bytes = bytes; time = time; loose = loose }
-
-abbrev pub found_number : Found → ℕ
-found_number found.Row = 0
-found_number (found.Refused why) = number_of why
 
 -- a row as it is returned: its length, and 21 bytes
 pub record ShownRow : Type 0 where
@@ -45,14 +36,15 @@ pub record ShownRow : Type 0 where
   pub time : ℕ
   pub loose : Bool
 
--- a row that a call returns, as the model names it
-abbrev pub read_result : RowAt → ShownRow
-read_result r = record {
-  number = found_number r.answer;
-  len = r.len;
-  bytes = r.bytes;
-  time = r.time;
-  loose = r.loose;
+-- a row that a call returns, as the model names it; all zero with a refusal
+abbrev pub read_result : Result RowAt Refusal → ShownRow
+read_result (Ok r) = record { number = 0; len = r.len; bytes = r.bytes; time = r.time; loose = r.loose }
+read_result (Err why) = record {
+  number = number_of why;
+  len = 0;
+  bytes = replicate cell_capacity 0;
+  time = 0;
+  loose = false;
 }
 
 -- the row that was read, with the 21 bytes of its cell; all zero with a refusal
@@ -85,6 +77,7 @@ abbrev pub open_found : buffer.Found → ℕ → Opening
 open_found (buffer.At k) n = record { number = number_of Mismatch; position = k; rows = 0 }
 open_found buffer.None n = record { number = 0; position = 0; rows = n }
 
--- the number of an answer; 0 for done
-abbrev pub feed_result : Fed → Feeding
-feed_result r = record { number = outcome_number r.answer; next = scan_of r.next }
+-- the number of an answer, and the scan after it: with a refusal, the scan that was handed in
+abbrev pub feed_result : buffer.Scan → Result Scan Refusal → Feeding
+feed_result s (Ok next) = record { number = 0; next = scan_of next }
+feed_result s (Err why) = record { number = number_of why; next = s }

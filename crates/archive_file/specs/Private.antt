@@ -1,5 +1,5 @@
 -- What the contracts of private functions say. No public contract cites these.
-use Rattle.std.specs.Prelude.{ℕ, ◌≡◌, Bool, cond, not, ◌&&◌, List, map, ltb}
+use Rattle.std.specs.Prelude.{ℕ, ◌≡◌, Bool, cond, not, ◌&&◌, List, map, ltb, Result, ⊤}
 use Rattle.base_lists.specs.Lists.{equal, up_from}
 use Rattle.base_refusal.specs.Number.{number_of}
 use Rattle.base_refusal.specs.declared.Refusal.{Refusal}
@@ -7,17 +7,12 @@ use Rattle.base_refusal.specs.declared.Refusal.TheVariants.{ShortOutput, Argumen
 use Rattle.radio_erp1.specs.Subtelegram.{check_of, is_valid}
 use Rattle.block_layout.specs.Block.{block_cell}
 use Rattle.archive_model.specs.Row.{row_cell, row_in, row_count, is_row}
-use Rattle.archive_model.specs.Append.{Feeding, ReadRow, refused_append, no_row, cell_row}
-use Rattle.archive_file.specs.declared.ArchiveOutcome.{ArchiveOutcome}
-use Rattle.archive_file.specs.declared.Scan.{Scan}
-use Rattle.archive_file.specs.Archive.{append_result, scan_of}
-
--- a refused call leaves the scan unchanged
-abbrev pub refused_scan : Scan → Refusal → Feeding
-refused_scan s why = record { number = number_of why; next = scan_of s }
+use Rattle.archive_model.specs.Append.{ReadRow, refused_append, no_row, cell_row}
+use Rattle.archive_file.specs.Archive.{append_result}
+use Rattle.archive_file.specs.declared.ArchiveError.{ArchiveError}
 
 -- a row for which there is no block is refused: with the check's number if the row is not valid, else with 6
-abbrev pub NoBlock : List ℕ → ArchiveOutcome → Type 0
+abbrev pub NoBlock : List ℕ → Result ⊤ ArchiveError → Type 0
 NoBlock bytes r =
     (old : List ℕ)
     → append_result r old

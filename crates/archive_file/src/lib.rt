@@ -9,13 +9,13 @@ ghost use Rattle.archive_model.specs.Row.{row_last, rows_header, block_number, r
 ghost use Rattle.archive_model.specs.Buffer as buffer;
 ghost use Rattle.archive_model.specs.Append as calls;
 ghost use Rattle.archive_file.specs.Archive.{open_result, append_result, row_of, read_result, row_shown, sound_count, stage_of, scan_of, open_found, feed_result};
-ghost use Rattle.archive_file.specs.Private.{refused_scan, NoBlock, no_row_for, row_in_block, is_written, cells_from};
+ghost use Rattle.archive_file.specs.Private.{NoBlock, row_in_block, is_written, cells_from};
+ghost use Rattle.archive_file.specs.declared.ArchiveError.TheVariants.{Refused};
 
-use base_refusal::{Outcome, Refusal};
+use base_refusal::Refusal;
 use block_layout::{
     BLOCK_LENGTH, BODY_LENGTH, CELL_CAPACITY, CELL_LENGTH, CELLS_PER_BLOCK, HEADER_LENGTH,
 };
-use radio_erp1::Checked;
 
 // The largest number of blocks of an archive, and of rows.
 pub const MAX_BLOCKS: usize = 4294967296;
@@ -27,33 +27,25 @@ const FIELD: usize = 9;
 
 const LAST: usize = 30;
 
-// How many rows an archive has, or the position of the first block that does not match.
-#[derive(Clone, Copy)]
-pub enum Opened {
-    Rows(usize),
+// Why a call on an archive is refused: the position of the first block that does not match (12), or another refusal.
+#[derive(Clone, Copy, Debug, PartialEq, Eq)]
+pub enum ArchiveError {
     Damaged(usize),
     Refused(Refusal),
 }
 
-// Whether a row was appended, or the position of the block that does not match.
-#[derive(Clone, Copy)]
-pub enum ArchiveOutcome {
-    Done,
-    Damaged(usize),
-    Refused(Refusal),
+impl From<Refusal> for ArchiveError {
+    ghost from_gives = { λ why e. e ≡ Refused why };
+
+    fn from(why: Refusal) -> ArchiveError {
+        ArchiveError::Refused(why)
+    }
 }
 
-// Whether there is such a row.
-#[derive(Clone, Copy)]
-pub enum Found {
-    Row,
-    Refused(Refusal),
-}
-
-// A row that was read, and the 21 bytes of its cell: those after the length are unspecified. With a refusal, everything is zero.
-#[derive(Clone, Copy)]
+// A row that was read, and the 21 bytes of its cell: those after the length are unspecified.
+// Kept (buffer): no heap, and C gets the 21 bytes of the cell.
+#[derive(Clone, Copy, Debug, PartialEq, Eq)]
 pub struct RowAt {
-    pub answer: Found,
     pub time: u64,
     pub loose: bool,
     pub len: u8,
@@ -61,7 +53,7 @@ pub struct RowAt {
 }
 
 // What is known of the blocks so far: all are full; the last one is short; there was an all-zero one; or one does not match.
-#[derive(Clone, Copy)]
+#[derive(Clone, Copy, Debug, PartialEq, Eq)]
 pub enum Stage {
     Filling,
     Short,
@@ -70,18 +62,11 @@ pub enum Stage {
 }
 
 // An archive that is read in pieces: how many blocks were read, and how many rows they have.
-#[derive(Clone, Copy)]
+#[derive(Clone, Copy, Debug, PartialEq, Eq)]
 pub struct Scan {
     pub blocks: usize,
     pub rows: usize,
     pub stage: Stage,
-}
-
-// The scan after a piece; with a refusal, the scan that was handed in.
-#[derive(Clone, Copy)]
-pub struct Fed {
-    pub next: Scan,
-    pub answer: Outcome,
 }
 
 // ---- one block
@@ -92,14 +77,7 @@ fn is_row(cell: &[u8]) -> bool
     ensures { result ≡ is_row (row_in cell.now) }
 {
     let len = block_layout::cell_used(cell) as usize;
-    if CELL_CAPACITY < len {
-        return false;
-    }
-    let checked = radio_erp1::check(&cell[FIELD..FIELD + len]);
-    match checked {
-        Checked::Valid => true,
-        Checked::Refused(_) => false,
-    }
+    len <= CELL_CAPACITY && radio_erp1::check(&cell[FIELD..FIELD + len]).is_ok()
 }
 
 // Cell `i` of a block.
@@ -115,10 +93,7 @@ fn cell_at(block: &[u8], i: usize) -> &[u8]
 pub fn last_of(loose: bool) -> u16
     ensures { result ≡ row_last loose }
 {
-    if loose {
-        return 256;
-    }
-    0
+    if loose { 256 } else { 0 }
 }
 
 // Whether a cell says LOOSE.
@@ -170,8 +145,9 @@ fn are_written(block: &[u8], used: usize) -> bool
     requires { (length block.now ≡ block_length) × (used ≤ cells_per_block) }
     ensures { result ≡ all is_written (cells_from block.now 0 used) }
 {
-    for i in 0..used {
-        if !is_written(cell_at(block, i)) {
+    let cells = &block[HEADER_LENGTH..HEADER_LENGTH + CELL_LENGTH * used];
+    for cell in cells.chunks_exact(CELL_LENGTH) {
+        if !is_written(cell) {
             return false;
         }
     }
@@ -223,24 +199,21 @@ impl Scan {
     }
 
     // Reads the blocks of a piece, in order. Refused: 11 for a scan that no blocks give, 16 for a piece that isn't whole blocks, or if there are then
-    // more than 2^32 blocks in all; then the scan is unchanged.
-    pub fn feed(self, blocks: &[u8]) -> Fed
-        ensures { feed_result result ≡ calls.feed_of (scan_of self) blocks.now }
+    // more than 2^32 blocks in all; then the caller goes on with the scan that it has.
+    pub fn feed(self, blocks: &[u8]) -> Result<Scan, Refusal>
+        ensures { feed_result (scan_of self) result ≡ calls.feed_of (scan_of self) blocks.now }
     {
         if !is_scan(self) {
-            return kept(self, Refusal::NotAccepted);
+            return Err(Refusal::NotAccepted);
         }
         let passed = self.blocks;
         if blocks.len() % BLOCK_LENGTH != 0 {
-            return kept(self, Refusal::Size);
+            return Err(Refusal::Size);
         }
         if MAX_BLOCKS < passed + blocks.len() / BLOCK_LENGTH {
-            return kept(self, Refusal::Size);
+            return Err(Refusal::Size);
         }
-        Fed {
-            next: scan_blocks(self, blocks),
-            answer: Outcome::Done,
-        }
+        Ok(scan_blocks(self, blocks))
     }
 }
 
@@ -274,16 +247,6 @@ fn is_stage(stage: Stage, blocks: usize, rows: usize) -> bool
     }
 }
 
-// A refusal: the scan is unchanged.
-fn kept(s: Scan, why: Refusal) -> Fed
-    ensures { feed_result result ≡ refused_scan s why }
-{
-    Fed {
-        next: s,
-        answer: Outcome::Refused(why),
-    }
-}
-
 // Every whole block of a piece.
 fn scan_blocks(s: Scan, piece: &[u8]) -> Scan
     requires { (s.blocks + length piece.now / block_length ≤ buffer.max_blocks)
@@ -291,11 +254,8 @@ fn scan_blocks(s: Scan, piece: &[u8]) -> Scan
     ensures { scan_of result ≡ buffer.scan_blocks (scan_of s) (buffer.blocks_in piece.now) }
 {
     let mut at = s;
-    for i in 0..piece.len() / BLOCK_LENGTH {
-        at = scan_block(
-            at,
-            &piece[BLOCK_LENGTH * i..BLOCK_LENGTH * i + BLOCK_LENGTH],
-        );
+    for block in piece.chunks_exact(BLOCK_LENGTH) {
+        at = scan_block(at, block);
     }
     at
 }
@@ -329,9 +289,7 @@ fn after_blank(stage: Stage) -> Stage
     ensures { stage_of result ≡ buffer.stage_blank (stage_of stage) }
 {
     match stage {
-        Stage::Filling => Stage::Ended,
-        Stage::Short => Stage::Ended,
-        Stage::Ended => Stage::Ended,
+        Stage::Filling | Stage::Short | Stage::Ended => Stage::Ended,
         Stage::Wrong(j) => Stage::Wrong(j),
     }
 }
@@ -343,7 +301,7 @@ fn after_block(stage: Stage, k: usize, block: &[u8], used: usize) -> Stage
 {
     match stage {
         Stage::Filling => next_stage(k, block, used),
-        Stage::Short => Stage::Wrong(before(k)),
+        Stage::Short => Stage::Wrong(k.saturating_sub(1)),
         Stage::Ended => Stage::Wrong(k),
         Stage::Wrong(j) => Stage::Wrong(j),
     }
@@ -366,34 +324,21 @@ fn next_stage(k: usize, block: &[u8], used: usize) -> Stage
     Stage::Filling
 }
 
-// The position before `k`.
-fn before(k: usize) -> usize
-    ensures { result ≡ k - 1 }
-{
-    if k == 0 {
-        return 0;
-    }
-    k - 1
-}
-
 // ---- the calls
 
 // Whether a length is that of whole blocks, at most 2^32 of them.
 pub fn is_whole(len: usize) -> bool
     ensures { result ≡ buffer.is_whole len }
 {
-    if len % BLOCK_LENGTH != 0 {
-        return false;
-    }
-    len / BLOCK_LENGTH <= MAX_BLOCKS
+    len % BLOCK_LENGTH == 0 && len / BLOCK_LENGTH <= MAX_BLOCKS
 }
 
 // How many rows the archive has. Refused: 16, 12 with the position.
-pub fn open(buffer: &[u8]) -> Opened
+pub fn open(buffer: &[u8]) -> Result<usize, ArchiveError>
     ensures { open_result result ≡ calls.open_of buffer.now }
 {
     if !is_whole(buffer.len()) {
-        return Opened::Refused(Refusal::Size);
+        return Err(ArchiveError::Refused(Refusal::Size));
     }
     let end = scan_blocks(Scan::start(), buffer);
     let stage = end.stage;
@@ -401,14 +346,12 @@ pub fn open(buffer: &[u8]) -> Opened
 }
 
 // The answer after a scan of all blocks.
-fn rows_found(stage: Stage, rows: usize) -> Opened
+fn rows_found(stage: Stage, rows: usize) -> Result<usize, ArchiveError>
     ensures { open_result result ≡ open_found (buffer.stage_found (stage_of stage)) rows }
 {
     match stage {
-        Stage::Filling => Opened::Rows(rows),
-        Stage::Short => Opened::Rows(rows),
-        Stage::Ended => Opened::Rows(rows),
-        Stage::Wrong(k) => Opened::Damaged(k),
+        Stage::Filling | Stage::Short | Stage::Ended => Ok(rows),
+        Stage::Wrong(k) => Err(ArchiveError::Damaged(k)),
     }
 }
 
@@ -429,25 +372,28 @@ pub fn is_next(block: &[u8], n: usize) -> bool
 
 // Puts row `n` into the 512 bytes of its block, for a caller that has only that block. Refused: 16 for a wrong length, or an n that no archive has
 // (15 times 2^32 and more); 12 with the position n / 15; the check's number; then the block is unchanged.
-pub fn put_row(block: &mut [u8], n: usize, bytes: &[u8], time: u64, loose: bool) -> ArchiveOutcome
+pub fn put_row(
+    block: &mut [u8],
+    n: usize,
+    bytes: &[u8],
+    time: u64,
+    loose: bool,
+) -> Result<(), ArchiveError>
     ensures { append_result result block.new
         ≡ calls.put_row_of block.old n (row_of bytes.now time loose) }
 {
     if block.len() != BLOCK_LENGTH {
-        return ArchiveOutcome::Refused(Refusal::Size);
+        return Err(ArchiveError::Refused(Refusal::Size));
     }
     if MAX_ROWS <= n {
-        return ArchiveOutcome::Refused(Refusal::Size);
+        return Err(ArchiveError::Refused(Refusal::Size));
     }
     if !is_next(block, n) {
-        return ArchiveOutcome::Damaged(n / CELLS_PER_BLOCK);
+        return Err(ArchiveError::Damaged(n / CELLS_PER_BLOCK));
     }
-    let checked = radio_erp1::check(bytes);
-    if let Checked::Refused(why) = checked {
-        return ArchiveOutcome::Refused(why);
-    }
+    radio_erp1::check(bytes)?;
     write_row(block, n, bytes, time, loose);
-    ArchiveOutcome::Done
+    Ok(())
 }
 
 // Writes the header, the row in its cell, and the CRC; the other cells are unchanged.
@@ -479,12 +425,12 @@ pub fn append_at(
     bytes: &[u8],
     time: u64,
     loose: bool,
-) -> ArchiveOutcome
+) -> Result<(), ArchiveError>
     ensures { append_result result buffer.new
         ≡ calls.append_at_of buffer.old n (row_of bytes.now time loose) }
 {
     if !is_whole(buffer.len()) {
-        return ArchiveOutcome::Refused(Refusal::Size);
+        return Err(ArchiveError::Refused(Refusal::Size));
     }
     let k = n / CELLS_PER_BLOCK;
     if buffer.len() / BLOCK_LENGTH <= k {
@@ -500,27 +446,24 @@ pub fn append_at(
 }
 
 // The refusal of a row for which there is no block.
-fn no_block(bytes: &[u8]) -> ArchiveOutcome
+fn no_block(bytes: &[u8]) -> Result<(), ArchiveError>
     ensures { NoBlock bytes.now result }
 {
-    let checked = radio_erp1::check(bytes);
-    match checked {
-        Checked::Valid => ArchiveOutcome::Refused(Refusal::ShortOutput),
-        Checked::Refused(why) => ArchiveOutcome::Refused(why),
-    }
+    radio_erp1::check(bytes)?;
+    Err(ArchiveError::Refused(Refusal::ShortOutput))
 }
 
 // Reads row `i`. Refused: 16, 10 if there is no row i, 12 if its length is over 21, which no archive has.
-pub fn row_at(buffer: &[u8], i: usize) -> RowAt
+pub fn row_at(buffer: &[u8], i: usize) -> Result<RowAt, Refusal>
     ensures { read_result result
         ≡ row_shown (calls.row_at_of buffer.now i) (calls.cell_at i buffer.now) }
 {
     if !is_whole(buffer.len()) {
-        return no_row(Refusal::Size);
+        return Err(Refusal::Size);
     }
     let k = i / CELLS_PER_BLOCK;
     if buffer.len() / BLOCK_LENGTH <= k {
-        return no_row(Refusal::Argument);
+        return Err(Refusal::Argument);
     }
     read_row(
         &buffer[BLOCK_LENGTH * k..BLOCK_LENGTH * k + BLOCK_LENGTH],
@@ -529,54 +472,36 @@ pub fn row_at(buffer: &[u8], i: usize) -> RowAt
 }
 
 // Row `i` of a block.
-fn read_row(block: &[u8], i: usize) -> RowAt
+fn read_row(block: &[u8], i: usize) -> Result<RowAt, Refusal>
     requires { (length block.now ≡ block_length) × (i < cells_per_block) }
     ensures { read_result result
         ≡ row_shown (row_in_block block.now i) (block_cell i block.now) }
 {
     if block_layout::byte_at(block, 4) as usize <= i {
-        return no_row(Refusal::Argument);
+        return Err(Refusal::Argument);
     }
     let cell = cell_at(block, i);
     let len = block_layout::cell_used(cell);
     if CELL_CAPACITY < len as usize {
-        return no_row(Refusal::Mismatch);
+        return Err(Refusal::Mismatch);
     }
     let mut bytes = [0u8; CELL_CAPACITY];
     block_layout::copy_field(&mut bytes, cell);
     let time = block_layout::cell_time(cell);
     let loose = is_loose(cell);
-    RowAt {
-        answer: Found::Row,
+    Ok(RowAt {
         time,
         loose,
         len,
         bytes,
-    }
-}
-
-// No row, and the reason.
-fn no_row(why: Refusal) -> RowAt
-    ensures { (cell : List ℕ) → read_result result ≡ row_shown (no_row_for why) cell }
-{
-    RowAt {
-        answer: Found::Refused(why),
-        time: 0,
-        loose: false,
-        len: 0,
-        bytes: [0u8; CELL_CAPACITY],
-    }
+    })
 }
 
 // Appends a row. Refused: 16, 12 with the position, the check's number, 6; then the buffer is unchanged.
-pub fn append(buffer: &mut [u8], bytes: &[u8], time: u64, loose: bool) -> ArchiveOutcome
+pub fn append(buffer: &mut [u8], bytes: &[u8], time: u64, loose: bool) -> Result<(), ArchiveError>
     ensures { append_result result buffer.new
         ≡ calls.append_of buffer.old (row_of bytes.now time loose) }
 {
-    let rows = open(buffer);
-    match rows {
-        Opened::Rows(n) => append_at(buffer, n, bytes, time, loose),
-        Opened::Damaged(k) => ArchiveOutcome::Damaged(k),
-        Opened::Refused(why) => ArchiveOutcome::Refused(why),
-    }
+    let n = open(buffer)?;
+    append_at(buffer, n, bytes, time, loose)
 }

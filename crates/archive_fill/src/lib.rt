@@ -4,8 +4,8 @@
 ghost use Rattle.std.specs.Prelude.{◌≡◌, true, ◌*◌, length};
 ghost use mathlib.Core.List.{map, flatten};
 ghost use Rattle.base_lists.specs.Lists.{all};
-ghost use Rattle.base_refusal.specs.Number.{number_of};
-ghost use Rattle.radio_erp1.specs.Subtelegram.{check_of, checked_number};
+ghost use Rattle.base_refusal.specs.Number.{outcome_number};
+ghost use Rattle.radio_erp1.specs.Subtelegram.{check_of};
 ghost use Rattle.block_layout.specs.Cell.{cell_length};
 ghost use Rattle.archive_model.specs.Row.{row_cell, is_row};
 ghost use Rattle.archive_fill.specs.Fill.{row_length, row_given, rows_given, check_rows, put_rows, put_rows_given};
@@ -13,30 +13,29 @@ ghost use Rattle.archive_fill.specs.Calls.{put_rows_result, verdict_of};
 ghost use Rattle.archive_fill.specs.Private.{is_given, RowsReady};
 
 use archive_file::MAX_ROWS;
-use base_refusal::{Outcome, Refusal};
+use base_refusal::Refusal;
 use block_layout::{BLOCK_LENGTH, CELL_CAPACITY, CELL_LENGTH, CELLS_PER_BLOCK, HEADER_LENGTH};
-use radio_erp1::Checked;
 
 // A row without its time: a byte that is not 0 for LOOSE, its length, and 21 bytes.
 pub const ROW_LENGTH: usize = 2 + CELL_CAPACITY;
 
-// Whether the rows were put; with a refusal, its position.
-#[derive(Clone, Copy)]
-pub struct Filled {
-    pub answer: Outcome,
+// Why the rows were not put, and the position that goes with 12 and with the check's numbers; 0 with any other refusal.
+#[derive(Clone, Copy, Debug, PartialEq, Eq)]
+pub struct FillError {
+    pub why: Refusal,
     pub position: usize,
 }
 
 // ---- one record
 
 // The check of the bytes of a record.
-fn check_record(given: &[u8]) -> Checked
+fn check_record(given: &[u8]) -> Result<(), Refusal>
     requires { length given.now ≡ row_length }
-    ensures { checked_number result ≡ check_of (row_given 0 given.now).bytes }
+    ensures { outcome_number result ≡ check_of (row_given 0 given.now).bytes }
 {
     let len = block_layout::byte_at(given, 1) as usize;
     if CELL_CAPACITY < len {
-        return Checked::Refused(Refusal::Length);
+        return Err(Refusal::Length);
     }
     radio_erp1::check(&given[2..2 + len])
 }
@@ -55,17 +54,16 @@ fn put_record(cell: &mut [u8], time: u64, given: &[u8])
 // ---- all records
 
 // The first row that the check refuses, and its position.
-fn check_rows(times: &[u64], rows: &[u8]) -> Filled
+fn check_rows(times: &[u64], rows: &[u8]) -> Result<(), FillError>
     requires { length rows.now ≡ row_length * length times.now }
     ensures { verdict_of result ≡ check_rows 0 (rows_given times.now rows.now) }
 {
-    for i in 0..times.len() {
-        let checked = check_record(&rows[ROW_LENGTH * i..ROW_LENGTH * i + ROW_LENGTH]);
-        if let Checked::Refused(why) = checked {
-            return refused(why, i);
+    for (i, given) in rows.chunks_exact(ROW_LENGTH).enumerate() {
+        if let Err(why) = check_record(given) {
+            return Err(FillError { why, position: i });
         }
     }
-    done()
+    Ok(())
 }
 
 // Writes the cells of all rows, one after the other.
@@ -75,6 +73,7 @@ fn put_cells(out: &mut [u8], times: &[u64], rows: &[u8])
         × (all is_row (rows_given times.now rows.now) ≡ true) }
     ensures { out.new ≡ flatten (map row_cell (rows_given times.now rows.now)) }
 {
+    // Kept (loop): tried with `out.chunks_exact_mut`: once that borrow ends, a proof knows the length of `out` and none of its bytes.
     for i in 0..times.len() {
         put_record(
             &mut out[CELL_LENGTH * i..CELL_LENGTH * i + CELL_LENGTH],
@@ -122,48 +121,33 @@ fn write_rows(block: &mut [u8], n: usize, times: &[u64], rows: &[u8])
 // Puts rows `n`, n + 1 and so on into the 512 bytes of their block, all or none. `rows` has a record of 23 bytes for each time. Refused: 16 for a
 // wrong length of the block, an n that no archive has (15 times 2^32 and more) or records that are not 23 bytes for each time; 12 with n / 15; the
 // check's number with the position of the row in the list, from 0; 6 if the block has no room for all; then the block is unchanged.
-pub fn put_rows(block: &mut [u8], n: usize, times: &[u64], rows: &[u8]) -> Filled
+pub fn put_rows(block: &mut [u8], n: usize, times: &[u64], rows: &[u8]) -> Result<(), FillError>
     ensures { put_rows_result result block.new
         ≡ put_rows_given block.old n times.now rows.now }
 {
     let count = times.len();
     if !is_given(block.len(), n, count, rows.len()) {
-        return refused(Refusal::Size, 0);
+        return Err(FillError {
+            why: Refusal::Size,
+            position: 0,
+        });
     }
     if !archive_file::is_next(block, n) {
-        return refused(Refusal::Mismatch, n / CELLS_PER_BLOCK);
+        return Err(FillError {
+            why: Refusal::Mismatch,
+            position: n / CELLS_PER_BLOCK,
+        });
     }
-    let checked = check_rows(times, rows);
-    let answer = checked.answer;
-    if let Outcome::Refused(_) = answer {
-        return checked;
-    }
+    check_rows(times, rows)?;
     if CELLS_PER_BLOCK - n % CELLS_PER_BLOCK < count {
-        return refused(Refusal::ShortOutput, 0);
+        return Err(FillError {
+            why: Refusal::ShortOutput,
+            position: 0,
+        });
     }
     if count == 0 {
-        return done();
+        return Ok(());
     }
     write_rows(block, n, times, rows);
-    done()
-}
-
-// A refusal and its position.
-fn refused(why: Refusal, position: usize) -> Filled
-    ensures { verdict_of result ≡ record { number = number_of why; position = position } }
-{
-    Filled {
-        answer: Outcome::Refused(why),
-        position,
-    }
-}
-
-// All rows were put.
-fn done() -> Filled
-    ensures { verdict_of result ≡ record { number = 0; position = 0 } }
-{
-    Filled {
-        answer: Outcome::Done,
-        position: 0,
-    }
+    Ok(())
 }

@@ -1,16 +1,18 @@
 -- Cells: the transmitter of one, and those that stay of a block.
 --     used-bounds, identity-shown           a valid row has 8 to 21 bytes; the four before its STATUS and HASH
 --     row_at, kept-first, kept-turn, kept-end     the loop over the cells of a block: a cell's row; its start, a turn, its end
-use Prim.Native.Nat.{ℕ, suc, ◌+◌, ◌-◌, ◌≤◌, ◌<◌}
+use Rattle.std.specs.Bool.{MatchBool}
+use Rattle.std.specs.List.{HoldsAt, AllWithin}
+use Prim.Native.Nat.{ℕ, zero, suc, ◌+◌, ◌-◌, ◌≤◌, ◌<◌}
 use native.Mathlib.Nat.{zero-add}
 use native.Mathlib.Numerals.{add-one}
 use native.Mathlib.Omega.{arith}
-use mathlib.Core.Path.{◌≡◌, sym, ap, ap₂, ◌∙◌}
-use mathlib.Core.Bool.{Bool, true, false, cond}
-use mathlib.Core.List.{List, [], ◌++◌, map, flatten}
-use lib.ListN.{length, get_or, take, drop, length-map, drop_of_length-le}
+use mathlib.Core.Path.{◌≡◌, refl, sym, ap, ap₂, ◌∙◌}
+use mathlib.Core.Bool.{Bool, true, false, cond, ◌||◌}
+use mathlib.Core.List.{List, [], ◌∷◌, ◌++◌, map, flatten}
+use lib.ListN.{length, get_or, take, drop, length-map}
 use lib.Dec.{eqb}
-use lib.Seq.{take_all, drop-drop, drop-cons}
+use lib.Seq.{take_all, drop-drop}
 use borrow.Author.Tests.{eqb-true, eq-eqb, ne_eqb}
 use Rattle.base_lists.specs.Lists.{any, up_from}
 use Rattle.base_lists.proofs.Tests.{all_get_d}
@@ -105,12 +107,24 @@ cell_listed identities cell b e = rw e
 -- ---- the search in a list
 
 module _ (x : ℕ) where
-  pub any_next : (l : List ℕ) (i : ℕ) → i < length l → (x ≡ get_or l i 0 → ⊥)
-      → any (eqb x) (drop i l) ≡ any (eqb x) (drop (i + 1) l)
-  any_next l i h n = rw (drop-cons l i 0, add-one, ne_eqb x (get_or l i 0) n)
+  any_at : (l : List ℕ) (k : ℕ) → k < length l → get_or l k 0 ≡ x → any (eqb x) l ≡ true
+  any_at [] k h e = absurd (omega arith)
+  any_at (y ∷ l) zero h e = rw (eq-eqb x y (sym e))
+  any_at (y ∷ l) (suc k) h e = rw (any_at l k (omega arith) e) (go (eqb x y))
+    where
+      go : (b : Bool) → b || true ≡ true
+      go true = refl
+      go false = refl
 
-  pub any_found : (l : List ℕ) (i : ℕ) → i < length l → x ≡ get_or l i 0 → any (eqb x) (drop i l) ≡ true
-  any_found l i h e = rw (drop-cons l i 0, eq-eqb x (get_or l i 0) e)
+  any_none : (l : List ℕ) → ((k : ℕ) → k < length l → get_or l k 0 ≡ x → ⊥) → any (eqb x) l ≡ false
+  any_none [] h = refl
+  any_none (y ∷ l) h =
+      rw (ne_eqb x y (λ e. h 0 (omega arith) (sym e))) (any_none l (λ k b e. h (suc k) (omega arith) e))
 
-  pub any_end : (l : List ℕ) (i : ℕ) → length l ≤ i → any (eqb x) (drop i l) ≡ false
-  any_end l i h = ap (any (eqb x)) (drop_of_length-le l h)
+  -- the answer of a search through a list
+  pub any_is : (l : List ℕ) (r : Bool)
+      → MatchBool r ((k : ℕ) × (k < length l) × HoldsAt (λ y. y ≡ x) l k)
+      (AllWithin (λ y. y ≡ x → ⊥) l 0 (length l))
+      → r ≡ any (eqb x) l
+  any_is l true (k, h, e) = sym (any_at l k h (e 0))
+  any_is l false none = sym (any_none l (λ k h. none k 0 (omega arith) h))

@@ -1,16 +1,19 @@
 -- A walk over the blocks of a piece: its cells go to the packer, and full blocks to the output.
 --     kept_block                              the cells that stay of one block
 --     Walking, walk_start, walk_turn, walk-end     what is written and what waits: what is left brings it to the whole
+--     LeftBlocks, blocks-over, blocks-low, block-is, blocks-more     the blocks that are left; the last turn, and any other
 --     Listing, list-start, list-turn, list-end     the positions of the dropped blocks so far
 use Prim.Native.Nat.{ℕ, suc, ◌+◌, ◌-◌, ◌*◌, ◌/◌, ◌≤◌, ◌<◌}
-use native.Mathlib.Nat.{zero-add, add-zero}
+use native.Mathlib.Nat.{add-zero}
 use native.Mathlib.Numerals.{add-one}
 use native.Mathlib.Decide.{dec_lt}
 use native.Mathlib.Omega.{arith}
 use mathlib.Core.Path.{◌≡◌, refl, sym, ap, ap₂, ◌∙◌}
 use mathlib.Core.Bool.{Bool, true, false, cond, not}
 use mathlib.Core.List.{List, [], ◌∷◌, ◌++◌, map, flatten, append_assoc, append-nil, map-map}
-use lib.ListN.{length, take, drop, set, length-append, length-take, drop_of_length-le, take-append-drop}
+use lib.ListN.{length, take, drop, set, length-append, length-take, length-drop, drop_of_length-le, take-append-drop}
+use lib.Seq.{take_at, drop_at, drop-drop}
+use Rattle.std.specs.Int.{from_bool}
 use Rattle.base_lists.specs.Lists.{keep, all, up_from}
 use Rattle.base_lists.proofs.Choice.{both}
 use Rattle.base_lists.proofs.Equal.{equal_eq}
@@ -27,7 +30,7 @@ use Rattle.archive_model.proofs.Pieces.{rows-count}
 use Rattle.archive_model.proofs.Exact.{sound_some}
 use Rattle.archive_file.specs.Archive.{sound_count}
 use Rattle.archive_file.specs.Private.{is_written, cells_from}
-use Rattle.archive_file.proofs.Scans.{blocks_from, rest_first, sound_le}
+use Rattle.archive_file.proofs.Scans.{blocks_from, blocks_none, blocks_next, rest_first, sound_le}
 use Rattle.archive_file.proofs.Tested.{sound_cells}
 use Rattle.archive_repack_model.specs.Repack.{is_listed, others, is_dropped, dropped, fronted}
 use Rattle.archive_repack_model.specs.Packer.{Packing, full_length, full_blocks, pushed_blocks, pushed, cells_of, kept_cells, pending_length, packing}
@@ -365,6 +368,49 @@ module _ (p : Packing) (identities piece old : List ℕ) (most n : ℕ) where
         at.begun.is
         ∙ ap₂ (λ (x : List ℕ) (a : ℕ). x ++ drop a old) front_is (sym at.begun.long ∙ ap length front_is)
 
+-- ---- a loop over the blocks of a piece
+
+-- what is left from block k on
+pub record LeftBlocks (piece : List ℕ) (size : ℕ) (left : List ℕ) (k : ℕ) : Type 0 where
+  pub sized : size ≡ block_length
+  pub bounded : k ≤ length piece / block_length
+  pub are : left ≡ drop (block_length * k) piece
+
+module _ (piece all : List ℕ) (size k : ℕ) (at : LeftBlocks piece size all k) where
+  pub blocks_over : length all < size → length piece / block_length ≤ k
+  blocks_over h = omega (arith, ap length at.are, length-drop (block_length * k) piece, at.sized)
+
+  module _ (block left : List ℕ) (e : all ≡ block ++ left) (l : length block ≡ size) where
+    long : length block ≡ block_length
+    long = l ∙ at.sized
+
+    pub blocks_low : k < length piece / block_length
+    blocks_low =
+        omega (
+          arith,
+          ap length at.are,
+          ap length e,
+          length-append block left,
+          length-drop (block_length * k) piece,
+          long,
+          at.bounded,
+        )
+
+    pub block_is : block ≡ block_at k piece
+    block_is = sym (take_at block left block_length long) ∙ ap (take block_length) (sym e ∙ at.are)
+
+    pub blocks_more : (size' : ℕ) → size' ≡ size → LeftBlocks piece size' left (k + 1)
+    blocks_more size' s =
+        let more : block_length * k + block_length ≡ block_length * (k + 1) = omega arith in
+        record {
+          sized = s ∙ at.sized;
+          bounded = omega (arith, blocks_low);
+          are =
+              sym (drop_at block left block_length long) ∙ ap (drop block_length) (sym e ∙ at.are)
+              ∙ drop-drop block_length (block_length * k) piece
+              ∙ ap (λ (a : ℕ). drop a piece) more;
+        }
+
 -- ---- the list of dropped blocks
 
 module _ (b : List ℕ) (rows : ℕ) (e : rows ≡ sound_count b) where
@@ -372,14 +418,11 @@ module _ (b : List ℕ) (rows : ℕ) (e : rows ≡ sound_count b) where
   kept-not-dropped n =
       by_test {X = is_dropped b ≡ false} (is_sound b) (λ t. rw t) (λ f. absurd (n (rw f at e)))
 
-  pub blank_not-dropped : is_blank b ≡ true → is_dropped b ≡ false
-  blank_not-dropped z = by_test {X = is_dropped b ≡ false} (is_sound b) (λ t. rw t) (λ f. rw (f, z))
-
-  pub is_dropped_lem : rows ≡ 0 → is_blank b ≡ false → is_dropped b ≡ true
-  is_dropped_lem n z =
-      by_test {X = is_dropped b ≡ true} (is_sound b)
+  pub dropped_by : rows ≡ 0 → is_dropped b ≡ not (is_blank b)
+  dropped_by n =
+      by_test {X = is_dropped b ≡ not (is_blank b)} (is_sound b)
       (λ t. absurd (let r : rows ≡ row_count b = rw t at e in omega (arith, r, n, sound_some b t, rows-count b)))
-      (λ f. rw (f, z))
+      (λ f. rw f)
 
 pub record Listing (piece old : List ℕ) (n k gone : ℕ) (positions : List ℕ) : Type 0 where
   pub front : List ℕ
@@ -450,40 +493,25 @@ module _ (piece old : List ℕ) (n : ℕ) where
           at.begun.is ∙ ap₂ (λ (x : List ℕ) (a : ℕ). x ++ drop a old) e (sym at.begun.long ∙ ap length e),
         )
 
--- ---- how many blocks are dropped
+-- ---- how many of the blocks that are left are dropped
 
--- of n blocks from block a on
-unfoldable pub dropped_from : List ℕ → ℕ → ℕ → ℕ
-dropped_from buffer a n = length (keep (λ j. is_dropped (block_at j buffer)) (up_from a n))
+abbrev pub dropped_of : List ℕ → ℕ
+dropped_of left = length (keep is_dropped (blocks_in left))
+
+pub dropped_none : (left : List ℕ) → length left < block_length → dropped_of left ≡ 0
+dropped_none left h = ap (λ (l : List (List ℕ)). length (keep is_dropped l)) (blocks_none left h)
+
+pub dropped_next : (block left : List ℕ) → length block ≡ block_length
+    → dropped_of (block ++ left) ≡ from_bool (is_dropped block) + dropped_of left
+dropped_next block left h =
+    ap (λ (l : List (List ℕ)). length (keep is_dropped l)) (blocks_next block left h) ∙ go (is_dropped block)
+  where
+    go : (b : Bool) → length (cond b (block ∷ keep is_dropped (blocks_in left)) (keep is_dropped (blocks_in left)))
+        ≡ from_bool b + dropped_of left
+    go true = omega arith
+    go false = omega arith
 
 module _ (buffer : List ℕ) where
-  pub from_first : (n : ℕ) → n ≡ length buffer / block_length
-      → 0 + dropped_from buffer 0 (n - 0) ≡ length (dropped buffer)
-  unfolding dropped_from dropped
-  from_first n e =
-      let z : n - 0 ≡ length buffer / block_length = omega arith in
-      zero-add (length (keep (λ j. is_dropped (block_at j buffer)) (up_from 0 (n - 0))))
-      ∙ ap (λ (x : ℕ). length (keep (λ j. is_dropped (block_at j buffer)) (up_from 0 x))) z
-
-  pub from-turn : (n k : ℕ) → k < n → dropped_from buffer k (n - k)
-      ≡ cond (is_dropped (block_at k buffer)) 1 0 + dropped_from buffer (k + 1) (n - (k + 1))
-  unfolding dropped_from up_from
-  from-turn n k h =
-      let z : n - k ≡ suc (n - suc k) = omega arith in
-      rw (z, add-one) (go (is_dropped (block_at k buffer)))
-    where
-      go : (b : Bool) → length (cond b (k ∷ keep (λ j. is_dropped (block_at j buffer)) (up_from (suc k) (n - suc k)))
-          (keep (λ j. is_dropped (block_at j buffer)) (up_from (suc k) (n - suc k))))
-          ≡ cond b 1 0 + length (keep (λ j. is_dropped (block_at j buffer)) (up_from (suc k) (n - suc k)))
-      go true = omega arith
-      go false = omega arith
-
-  pub from_end : (n k : ℕ) → n ≤ k → dropped_from buffer k (n - k) ≡ 0
-  unfolding dropped_from up_from
-  from_end n k h =
-      let z : n - k ≡ 0 = omega arith in
-      rw z
-
   pub dropped_few : length (dropped buffer) ≤ length buffer / block_length
   unfolding dropped
   dropped_few = omega (

@@ -2,18 +2,13 @@
 use Rattle.std.specs.Prelude.{ℕ, ◌+◌, ◌-◌, ◌*◌, ◌/◌, ◌%◌, ◌≤◌, ◌<◌, ◌≡◌, Bool, true, cond, take, drop, length, set}
 use mathlib.Core.List.{List, [], ◌++◌, map, flatten}
 use Rattle.base_lists.specs.Lists.{all, padded}
-use Rattle.base_refusal.specs.Number.{number_of}
-use Rattle.base_refusal.specs.declared.Refusal.{Refusal}
 use Rattle.block_layout.specs.Cell.{cell_length}
 use Rattle.block_layout.specs.Block.{cells_per_block, block_length}
 use Rattle.archive_model.specs.Row.{row_in, is_row}
 use Rattle.archive_file.specs.Private.{cells_from}
 use Rattle.archive_repack_model.specs.Repack as model
-use Rattle.archive_repack_model.specs.Packer.{Packing, packing, kept_as, full_length, full_blocks, pushed_blocks, pushed, waiting_block}
-use Rattle.archive_repack.specs.declared.Salvaged.{Salvaged}
+use Rattle.archive_repack_model.specs.Packer.{Packing, packing, full_length, full_blocks, pushed_blocks, pushed, waiting_block}
 use Rattle.archive_repack.specs.declared.Repacked.{Repacked}
-use Rattle.archive_repack.specs.declared.Walk.{Walk}
-use Rattle.archive_repack.specs.Calls.{salvage_result, pack_result}
 
 -- each of the first n cells of a block holds a valid row
 abbrev pub are_rows : List ℕ → ℕ → Bool
@@ -49,7 +44,7 @@ pub record DropListed (is_dropped : Bool) (gone k : ℕ) (before after : List �
 
 -- what a walk over the blocks of a piece leaves: `cells` were put after those that waited, and the blocks that they
 -- filled are in the output
-pub record Walked (p : Packing) (cells : List ℕ) (r : Walk) (pending out out2 : List ℕ) : Type 0 where
+pub record Walked (p : Packing) (cells : List ℕ) (r : Repacked) (pending out out2 : List ℕ) : Type 0 where
   pub waits : r.used < cells_per_block
   pub packed : packing r.next r.used pending ≡ pushed p cells
   pub put : out2 ≡ model.fronted (pushed_blocks p cells) out
@@ -59,16 +54,3 @@ pub record Walked (p : Packing) (cells : List ℕ) (r : Walk) (pending out out2 
 abbrev pub packed_buffer : Packing → ℕ → List ℕ → List ℕ
 packed_buffer p end out =
     take (block_length * p.next) out ++ padded (end - block_length * p.next) (waiting_block p) ++ drop end out
-
--- a salvage that is refused leaves everything unchanged
-abbrev pub NotSalvaged : Refusal → Salvaged → Type 0
-NotSalvaged why r =
-    (output positions : List ℕ)
-    → salvage_result r output positions
-    ≡ record { number = number_of why; count = 0; rows = 0; output = output; positions = positions }
-
--- a piece that is refused leaves everything unchanged
-abbrev pub NotPacked : ℕ → ℕ → Refusal → Repacked → Type 0
-NotPacked used next why r =
-    (pending output positions : List ℕ)
-    → pack_result r pending output positions ≡ kept_as (number_of why) next used pending output positions

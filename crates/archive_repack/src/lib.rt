@@ -14,10 +14,10 @@ ghost use Rattle.archive_repack_model.specs.Repack as model;
 ghost use Rattle.archive_repack_model.specs.Packer as packer;
 ghost use Rattle.archive_repack_model.specs.Packer.{pending_length, packing};
 ghost use Rattle.archive_repack.specs.Calls.{salvage_result, remove_result, pack_result, finish_result};
-ghost use Rattle.archive_repack.specs.Private.{are_rows, kept_cell, kept_from, Waits, Flushed, HasRoom, DropListed, Walked, packed_buffer, NotSalvaged, NotPacked};
+ghost use Rattle.archive_repack.specs.Private.{are_rows, kept_cell, kept_from, Waits, Flushed, HasRoom, DropListed, Walked, packed_buffer};
 
-use archive_file::Opened;
-use base_refusal::{Outcome, Refusal};
+use archive_file::ArchiveError;
+use base_refusal::Refusal;
 use block_layout::{BLOCK_LENGTH, BODY_LENGTH, CELL_LENGTH, CELLS_PER_BLOCK, HEADER_LENGTH};
 
 // The largest number of identities in one removal.
@@ -32,43 +32,18 @@ pub const PENDING_LENGTH: usize = FULL_LENGTH + FULL_LENGTH;
 const FIELD: usize = 9;
 
 // How many blocks were dropped, and how many rows remain.
-#[derive(Clone, Copy)]
+#[derive(Clone, Copy, Debug, PartialEq, Eq)]
 pub struct Salvaged {
-    pub answer: Outcome,
     pub dropped: usize,
     pub rows: usize,
 }
 
-// How many blocks were freed, or the position of the first block that does not match.
-#[derive(Clone, Copy)]
-pub enum Removed {
-    Done(usize),
-    Damaged(usize),
-    Refused(Refusal),
-}
-
-// The packer after a piece: how many cells wait, the number of the next block, and how many blocks of the piece were dropped.
-#[derive(Clone, Copy)]
+// The packer after some blocks: how many cells wait, the number of the next block, and how many of the blocks were dropped.
+#[derive(Clone, Copy, Debug, PartialEq, Eq)]
 pub struct Repacked {
-    pub answer: Outcome,
     pub used: usize,
     pub next: usize,
     pub dropped: usize,
-}
-
-// The length of the last block, 512 or 0.
-#[derive(Clone, Copy)]
-pub struct Ended {
-    pub answer: Outcome,
-    pub len: usize,
-}
-
-// The packer after some blocks: how many cells wait, the number of the next block, and how many blocks were dropped.
-#[derive(Clone, Copy)]
-struct Walk {
-    used: usize,
-    next: usize,
-    dropped: usize,
 }
 
 // ---- one row
@@ -86,12 +61,9 @@ fn identity_of(cell: &[u8]) -> u64
 fn is_listed(identity: u64, identities: &[u32]) -> bool
     ensures { result ≡ lists.any (eqb identity) identities.now }
 {
-    for i in 0..identities.len() {
-        if identity == identities[i] as u64 {
-            return true;
-        }
-    }
-    false
+    identities
+        .iter()
+        .any(|listed| u64::from(*listed) == identity)
 }
 
 // Puts a cell after `at` others, unless its transmitter is listed.
@@ -104,10 +76,7 @@ fn push_cell(pending: &mut [u8], at: usize, cell: &[u8], identities: &[u32]) -> 
     if is_listed(identity_of(cell), identities) {
         return at;
     }
-    base_bytes::copy(
-        cell,
-        &mut pending[CELL_LENGTH * at..CELL_LENGTH * at + CELL_LENGTH],
-    );
+    pending[CELL_LENGTH * at..CELL_LENGTH * at + CELL_LENGTH].copy_from_slice(cell);
     at + 1
 }
 
@@ -124,10 +93,10 @@ fn push_cells(
     ensures { Waits (take (cell_length * used) pending.old)
         (kept_from identities.now source.now 0 rows) pending.new (used + rows) result }
 {
+    let cells = &source[HEADER_LENGTH..HEADER_LENGTH + CELL_LENGTH * rows];
     let mut at = used;
-    for i in 0..rows {
-        let start = HEADER_LENGTH + CELL_LENGTH * i;
-        at = push_cell(pending, at, &source[start..start + CELL_LENGTH], identities);
+    for cell in cells.chunks_exact(CELL_LENGTH) {
+        at = push_cell(pending, at, cell, identities);
     }
     at
 }
@@ -143,7 +112,7 @@ fn put_block(out: &mut [u8], k: usize, cells: &[u8])
     block_layout::put_number(&mut out[0..4], k as u64);
     out[4] = (cells.len() / CELL_LENGTH) as u8;
     block_layout::clear(&mut out[5..HEADER_LENGTH]);
-    base_bytes::copy(cells, &mut out[HEADER_LENGTH..end]);
+    out[HEADER_LENGTH..end].copy_from_slice(cells);
     block_layout::clear(&mut out[end..BODY_LENGTH]);
     block_layout::seal(out);
 }
@@ -154,9 +123,8 @@ fn move_front(pending: &mut [u8])
     ensures { pending.new
         ≡ drop packer.full_length pending.old ++ drop packer.full_length pending.old }
 {
-    let mut later = [0u8; FULL_LENGTH];
-    base_bytes::copy(&pending[FULL_LENGTH..PENDING_LENGTH], &mut later);
-    base_bytes::copy(&later, &mut pending[0..FULL_LENGTH]);
+    let (front, later) = pending.split_at_mut(FULL_LENGTH);
+    front.copy_from_slice(later);
 }
 
 // If 15 of `total` cells fill block `k`, writes it; the others wait.
@@ -176,6 +144,14 @@ fn flush(pending: &mut [u8], total: usize, k: usize, full: &mut [u8]) -> usize
 
 // ---- the blocks of a piece
 
+// Whether a block is dropped: it is neither sound nor blank. `rows` is the number of its rows if it is sound, else 0.
+fn is_dropped(block: &[u8], rows: usize) -> bool
+    requires { rows ≡ sound_count block.now }
+    ensures { result ≡ model.is_dropped block.now }
+{
+    rows == 0 && !block_layout::is_blank(block)
+}
+
 // If a block is dropped, puts its position `k` after `gone` others. `rows` is the number of its rows if it is sound, else 0.
 fn list_block(positions: &mut [u64], gone: usize, k: usize, block: &[u8], rows: usize) -> usize
     requires { (rows ≡ sound_count block.now) × HasRoom block.now gone positions.old }
@@ -183,10 +159,7 @@ fn list_block(positions: &mut [u64], gone: usize, k: usize, block: &[u8], rows: 
         positions.new
         result }
 {
-    if rows != 0 {
-        return gone;
-    }
-    if block_layout::is_blank(block) {
+    if !is_dropped(block, rows) {
         return gone;
     }
     positions[gone] = k as u64;
@@ -203,7 +176,7 @@ fn pack_blocks(
     identities: &[u32],
     out: &mut [u8],
     positions: &mut [u64],
-) -> Walk
+) -> Repacked
     requires { (length pending.old ≡ pending_length) × (used < cells_per_block)
         × (next + length piece.now / block_length < 2 ^ 64) × (length piece.now ≤ length out.old)
         × (length (model.dropped piece.now) ≤ length positions.old) }
@@ -216,8 +189,7 @@ fn pack_blocks(
     let mut waits = used;
     let mut put = 0;
     let mut gone = 0;
-    for k in 0..piece.len() / BLOCK_LENGTH {
-        let block = &piece[BLOCK_LENGTH * k..BLOCK_LENGTH * k + BLOCK_LENGTH];
+    for (k, block) in piece.chunks_exact(BLOCK_LENGTH).enumerate() {
         let rows = archive_file::sound(block);
         gone = list_block(positions, gone, k, block, rows);
         let total = push_cells(pending, waits, block, rows, identities);
@@ -229,7 +201,7 @@ fn pack_blocks(
         );
         put = put + total / CELLS_PER_BLOCK;
     }
-    Walk {
+    Repacked {
         used: waits,
         next: next + put,
         dropped: gone,
@@ -257,26 +229,13 @@ fn close(out: &mut [u8], pending: &[u8], used: usize, next: usize, end: usize)
 
 // ---- salvage
 
-// 1 for a block that is dropped, 0 for any other.
-fn dropped_one(block: &[u8]) -> usize
-    ensures { result ≡ cond (model.is_dropped block.now) 1 0 }
-{
-    if archive_file::sound(block) != 0 {
-        return 0;
-    }
-    if block_layout::is_blank(block) {
-        return 0;
-    }
-    1
-}
-
 // How many blocks are dropped.
 fn dropped_in(buffer: &[u8]) -> usize
     ensures { result ≡ length (model.dropped buffer.now) }
 {
     let mut gone = 0;
-    for k in 0..buffer.len() / BLOCK_LENGTH {
-        gone = gone + dropped_one(&buffer[BLOCK_LENGTH * k..BLOCK_LENGTH * k + BLOCK_LENGTH]);
+    for block in buffer.chunks_exact(BLOCK_LENGTH) {
+        gone += usize::from(is_dropped(block, archive_file::sound(block)));
     }
     gone
 }
@@ -293,39 +252,27 @@ fn is_listable(buffer: &[u8], len: usize) -> bool
 
 // Writes the rows of the sound blocks as an archive to the front of `out`, with zeros up to the length of the buffer, and the positions of the
 // dropped blocks to the front of the list. Refused: 16, 6 for an output shorter than the buffer or a list too short; then both are unchanged.
-pub fn salvage(buffer: &[u8], out: &mut [u8], positions: &mut [u64]) -> Salvaged
+pub fn salvage(buffer: &[u8], out: &mut [u8], positions: &mut [u64]) -> Result<Salvaged, Refusal>
     ensures { salvage_result result out.new positions.new
         ≡ model.salvage_of buffer.now out.old positions.old }
 {
     if !archive_file::is_whole(buffer.len()) {
-        return not_salvaged(Refusal::Size);
+        return Err(Refusal::Size);
     }
     if out.len() < buffer.len() {
-        return not_salvaged(Refusal::ShortOutput);
+        return Err(Refusal::ShortOutput);
     }
     if !is_listable(buffer, positions.len()) {
-        return not_salvaged(Refusal::ShortOutput);
+        return Err(Refusal::ShortOutput);
     }
     let mut pending = [0u8; PENDING_LENGTH];
     let none = [0u32; 1];
     let end = pack_blocks(&mut pending, 0, 0, buffer, &none[0..0], out, positions);
     close(out, &pending, end.used, end.next, buffer.len());
-    Salvaged {
-        answer: Outcome::Done,
+    Ok(Salvaged {
         dropped: end.dropped,
         rows: CELLS_PER_BLOCK * end.next + end.used,
-    }
-}
-
-// Nothing was salvaged, and the reason.
-fn not_salvaged(why: Refusal) -> Salvaged
-    ensures { NotSalvaged why result }
-{
-    Salvaged {
-        answer: Outcome::Refused(why),
-        dropped: 0,
-        rows: 0,
-    }
+    })
 }
 
 // ---- removal
@@ -340,7 +287,7 @@ fn blocks_for(rows: usize) -> usize
 
 // Packs the rows that stay to the front of the buffer, from left to right: every 15 fill a block, and the others wait. `blocks` is the number of
 // blocks with rows. A block is written only after it was read, because no more blocks are written than were read.
-fn pack_within(buffer: &mut [u8], blocks: usize, identities: &[u32], pending: &mut [u8]) -> Walk
+fn pack_within(buffer: &mut [u8], blocks: usize, identities: &[u32], pending: &mut [u8]) -> Repacked
     requires { ((verdict buffer.old).number ≡ 0) × (blocks ≡ blocks_for (length (rows_in buffer.old)))
         × (length pending.old ≡ pending_length) }
     ensures { Walked packer.start_packing (packer.kept_cells identities.now buffer.old) result
@@ -348,6 +295,7 @@ fn pack_within(buffer: &mut [u8], blocks: usize, identities: &[u32], pending: &m
 {
     let mut waits = 0;
     let mut put = 0;
+    // Kept (loop): no plainer: the blocks that are read lie in the buffer that is written, and an iterator over them would borrow it to the end.
     for k in 0..blocks {
         let block = &buffer[BLOCK_LENGTH * k..BLOCK_LENGTH * k + BLOCK_LENGTH];
         let rows = block_layout::byte_at(block, 4) as usize;
@@ -360,7 +308,7 @@ fn pack_within(buffer: &mut [u8], blocks: usize, identities: &[u32], pending: &m
         );
         put = put + total / CELLS_PER_BLOCK;
     }
-    Walk {
+    Repacked {
         used: waits,
         next: put,
         dropped: 0,
@@ -369,33 +317,29 @@ fn pack_within(buffer: &mut [u8], blocks: usize, identities: &[u32], pending: &m
 
 // Removes the rows of listed transmitters. The other rows are packed in the same buffer, and blocks that are no longer needed are zero. Refused: 16,
 // 12 with the position, 10 for more than 32 identities; then the buffer is unchanged.
-pub fn remove(buffer: &mut [u8], identities: &[u32]) -> Removed
+pub fn remove(buffer: &mut [u8], identities: &[u32]) -> Result<usize, ArchiveError>
     ensures { remove_result result buffer.new
         ≡ model.remove_of buffer.old identities.now }
 {
-    let rows = archive_file::open(buffer);
-    match rows {
-        Opened::Rows(n) => remove_from(buffer, n, identities),
-        Opened::Damaged(k) => Removed::Damaged(k),
-        Opened::Refused(why) => Removed::Refused(why),
-    }
+    let n = archive_file::open(buffer)?;
+    remove_from(buffer, n, identities)
 }
 
 // The same for an archive of `n` rows.
-fn remove_from(buffer: &mut [u8], n: usize, identities: &[u32]) -> Removed
+fn remove_from(buffer: &mut [u8], n: usize, identities: &[u32]) -> Result<usize, ArchiveError>
     requires { ((verdict buffer.old).number ≡ 0) × (n ≡ length (rows_in buffer.old)) }
     ensures { remove_result result buffer.new
         ≡ model.remove_of buffer.old identities.now }
 {
     if MAX_IDENTITIES < identities.len() {
-        return Removed::Refused(Refusal::Argument);
+        return Err(ArchiveError::Refused(Refusal::Argument));
     }
     let blocks = blocks_for(n);
     let mut pending = [0u8; PENDING_LENGTH];
     let end = pack_within(buffer, blocks, identities, &mut pending);
     close(buffer, &pending, end.used, end.next, BLOCK_LENGTH * blocks);
     let after = blocks_for(CELLS_PER_BLOCK * end.next + end.used);
-    Removed::Done(blocks - after)
+    Ok(blocks - after)
 }
 
 // ---- in pieces
@@ -419,6 +363,7 @@ fn is_packing(pending: &[u8], used: usize, next: usize) -> bool
 // Packs the next piece of an archive. The rows that stay are put after the `used` cells that wait in `pending`; every 15 fill a block of `out`, and
 // the first of them is block `next`. The positions of the dropped blocks, counted from the first block of the piece, go to the list. Refused: 11 for
 // a packer that no pieces give, 16, 10 for more than 32 identities, 6; then everything is unchanged. Else there are zeros after the cells that wait.
+// Kept (buffer): C lends `pending`, and the clause `pack_call` speaks of buffers that no pieces give, too.
 pub fn pack(
     pending: &mut [u8],
     used: usize,
@@ -427,84 +372,55 @@ pub fn pack(
     identities: &[u32],
     out: &mut [u8],
     positions: &mut [u64],
-) -> Repacked
-    ensures { pack_result result pending.new out.new positions.new
+) -> Result<Repacked, Refusal>
+    ensures { pack_result used next result pending.new out.new positions.new
         ≡ packer.pack_of next used pending.old piece.now identities.now
         out.old
         positions.old }
 {
     if !is_packing(pending, used, next) {
-        return not_packed(used, next, Refusal::NotAccepted);
+        return Err(Refusal::NotAccepted);
     }
     if piece.len() % BLOCK_LENGTH != 0 {
-        return not_packed(used, next, Refusal::Size);
+        return Err(Refusal::Size);
     }
     if archive_file::MAX_ROWS < CELLS_PER_BLOCK * (next + piece.len() / BLOCK_LENGTH) + used {
-        return not_packed(used, next, Refusal::Size);
+        return Err(Refusal::Size);
     }
     if MAX_IDENTITIES < identities.len() {
-        return not_packed(used, next, Refusal::Argument);
+        return Err(Refusal::Argument);
     }
     if out.len() < piece.len() {
-        return not_packed(used, next, Refusal::ShortOutput);
+        return Err(Refusal::ShortOutput);
     }
     if !is_listable(piece, positions.len()) {
-        return not_packed(used, next, Refusal::ShortOutput);
+        return Err(Refusal::ShortOutput);
     }
     let end = pack_blocks(pending, used, next, piece, identities, out, positions);
     let behind = CELL_LENGTH * end.used;
     block_layout::clear(&mut pending[behind..PENDING_LENGTH]);
-    Repacked {
-        answer: Outcome::Done,
-        used: end.used,
-        next: end.next,
-        dropped: end.dropped,
-    }
-}
-
-// Nothing was packed, and the reason.
-fn not_packed(used: usize, next: usize, why: Refusal) -> Repacked
-    ensures { NotPacked used next why result }
-{
-    Repacked {
-        answer: Outcome::Refused(why),
-        used,
-        next,
-        dropped: 0,
-    }
+    Ok(end)
 }
 
 // Ends the pieces: writes the last block, if cells wait, to the front of `out`, and returns its length, 512 or 0. Refused: 11, 6 for an output too
 // short.
-pub fn finish(pending: &[u8], used: usize, next: usize, out: &mut [u8]) -> Ended
+pub fn finish(pending: &[u8], used: usize, next: usize, out: &mut [u8]) -> Result<usize, Refusal>
     ensures { finish_result result out.new
         ≡ packer.finish_of next used pending.now out.old }
 {
     if !is_packing(pending, used, next) {
-        return Ended {
-            answer: Outcome::Refused(Refusal::NotAccepted),
-            len: 0,
-        };
+        return Err(Refusal::NotAccepted);
     }
     if used == 0 {
-        return Ended {
-            answer: Outcome::Done,
-            len: 0,
-        };
+        return Ok(0);
     }
     if out.len() < BLOCK_LENGTH {
-        return Ended {
-            answer: Outcome::Refused(Refusal::ShortOutput),
-            len: 0,
-        };
+        return Err(Refusal::ShortOutput);
     }
     put_block(
         &mut out[0..BLOCK_LENGTH],
         next,
         &pending[0..CELL_LENGTH * used],
     );
-    Ended {
-        answer: Outcome::Done,
-        len: BLOCK_LENGTH,
-    }
+    Ok(BLOCK_LENGTH)
 }

@@ -137,7 +137,7 @@ module _ (buffer : List ℕ) where
   unfolding blocks_in dropped
   dropped-blocks = keep-map is_dropped at (up_from 0 blocks)
 
-  dropped-count : length (keep is_dropped (blocks_in buffer)) ≡ length (dropped buffer)
+  pub dropped-count : length (keep is_dropped (blocks_in buffer)) ≡ length (dropped buffer)
   dropped-count = ap length dropped-blocks ∙ length-map (dropped buffer) at
 
   up_from_rises : pairwise ltb (up_from 0 blocks) ≡ true

@@ -1,6 +1,5 @@
 -- Where a line goes: the search for its place, the gap that is made for it, and what the lines then are.
 --     Bracket, bracket-start, bracket-half, bracket-place                 the search
---     Shifting, shift_none, shift-more, shifted                           the gap
 --     joined-there, put-there, no_room                                    the three ends of `add_row`
 use Prim.Native.Nat.{ℕ, zero, suc, ◌+◌, ◌-◌, ◌*◌, ◌≤◌, ◌<◌}
 use native.Mathlib.Decide.{dec_lt}
@@ -10,8 +9,7 @@ use mathlib.Core.Path.{◌≡◌, refl, sym, ap, ap₂, ◌∙◌}
 use mathlib.Core.Bool.{true, false, cond, ◌&&◌, false≢true}
 use mathlib.Core.List.{List, [], ◌∷◌, ◌++◌}
 use lib.Dec.{ltb, leb, eqb}
-use lib.ListN.{length, get_or, set, length-set, length-append}
-use lib.Seq.{get_or-set_same, get_or-set_other}
+use lib.ListN.{length, get_or, length-append}
 use borrow.Author.Tests.{lt-ltb, ltb-true, ltb-false, leb-true, leb-false, eq-eqb, eqb-true}
 use Rattle.base_lists.specs.Lists.{all}
 use Rattle.base_lists.proofs.Choice.{both}
@@ -19,7 +17,7 @@ use Rattle.base_lists.proofs.Tests.{and-true, by_test}
 use Rattle.archive_report_model.specs.Report.{Line, max_lines, merged_line, insert}
 use Rattle.archive_report_model.proofs.Order.{insert_before, insert_same, insert_after, insert_nil}
 use Rattle.archive_report.specs.Lines.{line_length, line_at, lines_from, lines_at}
-use Rattle.archive_report.specs.Private.{Ordered, Place, SameBehind, Gap, Stored, Inserted}
+use Rattle.archive_report.specs.Private.{Ordered, Place, Gap, Stored, Inserted}
 use Rattle.archive_report.proofs.Windows.{lines-count, lines_split, lines_next, lines_none, lines_same}
 
 -- ---- the search
@@ -85,60 +83,6 @@ module _ (xs : List ℕ) (n x : ℕ) where
   pub bracket_place : (low size : ℕ) → Bracket xs n x low size → size ≡ 0 → Place xs n x low
   bracket_place low size b z =
       record { within = b.within; below = b.below; above = λ i k m. b.above i (omega arith) m }
-
--- ---- the gap
-
-pub record Shifting (from end i : ℕ) (old xs : List ℕ) : Type 0 where
-  pub long : length xs ≡ length old
-  pub low : from ≤ i
-  pub high : i ≤ end
-  pub same : (k : ℕ) → k < i + line_length → get_or xs k 0 ≡ get_or old k 0
-  pub moved : (k : ℕ) → i ≤ k → k < end → get_or xs (k + line_length) 0 ≡ get_or old k 0
-  pub behind : SameBehind (end + line_length) old xs
-
-pub shift_none : (from end : ℕ) (old : List ℕ) → from ≤ end → Shifting from end end old old
-shift_none from end old h =
-    record {
-      long = refl;
-      low = h;
-      high = omega arith;
-      same = λ k l. refl;
-      moved = λ k l m. absurd (omega arith);
-      behind = λ k l. refl;
-    }
-
-pub shift_more : (from end i : ℕ) (old xs : List ℕ)
-    → Shifting from end i old xs → from < i → end + line_length ≤ length old
-    → Shifting from end (i - 1) old (set xs (i - 1 + line_length) (get_or xs (i - 1) 0))
-shift_more from end i old xs s h fits =
-    let at = i - 1 + line_length in
-    let x = get_or xs (i - 1) 0 in
-    let low = s.low in
-    let high = s.high in
-    record {
-      long = length-set xs at x ∙ s.long;
-      low = omega arith;
-      high = omega arith;
-      same = λ k l. get_or-set_other xs at k x 0 (λ q. omega arith) ∙ s.same k (omega arith);
-      moved =
-          λ k l m. elim (dec_lt (i - 1) k) [
-            | yes p ↦ get_or-set_other xs at (k + line_length) x 0 (λ q. omega arith) ∙ s.moved k (omega arith) m
-            | no p ↦
-                let e : k ≡ i - 1 = omega arith in
-                let f : k + line_length ≡ at = omega arith in
-                ap (λ (j : ℕ). get_or (set xs at x) j 0) f ∙ get_or-set_same xs at x 0 (omega (arith, s.long))
-                ∙ s.same (i - 1) (omega arith) ∙ ap (λ (j : ℕ). get_or old j 0) (sym e)
-          ];
-      behind = λ k l. get_or-set_other xs at k x 0 (λ q. omega arith) ∙ s.behind k l;
-    }
-
-pub shifted : (from end i : ℕ) (old xs : List ℕ) → Shifting from end i old xs → i ≤ from → Gap from end old xs
-shifted from end i old xs s h = record {
-  long = s.long;
-  front = λ k l. s.same k (omega (arith, s.low));
-  back = λ k l m. s.moved k (omega (arith, s.low)) m;
-  behind = s.behind;
-}
 
 -- ---- a line inserted behind those before it
 

@@ -1,8 +1,6 @@
 -- What the contracts of private functions say. No public contract cites these.
 use Rattle.std.specs.Prelude.{ℕ, ◌+◌, ◌*◌, ◌^◌, ◌≤◌, ◌<◌, ◌≡◌, Bool, true, false, cond, ◌&&◌, ◌||◌, List, [], ◌∷◌, map, ltb, leb, eqb, length, get_or}
 use Rattle.base_lists.specs.Lists.{up_from}
-use Rattle.base_refusal.specs.Number.{number_of}
-use Rattle.base_refusal.specs.declared.Refusal.{Refusal}
 use Rattle.block_layout.specs.Block.{block_cell}
 use Rattle.archive_model.specs.Row.{Row, row_in}
 use Rattle.archive_model.specs.Buffer.{max_rows, start_scan}
@@ -11,10 +9,8 @@ use Rattle.archive_file.specs.Archive.{scan_of}
 use Rattle.archive_report_model.specs.Report as model
 use Rattle.archive_report_model.specs.Report.{Line, max_lines, insert, add_rows, rows_of_line, sum_by}
 use Rattle.archive_report_model.specs.Pieces as pieces
-use Rattle.archive_report.specs.declared.Report.{Report}
 use Rattle.archive_report.specs.declared.tally.Tally.{Tally}
 use Rattle.archive_report.specs.Lines.{line_length, line_at, lines_at}
-use Rattle.archive_report.specs.Report.{report_of}
 
 -- ---- rows, lines and their array
 
@@ -99,7 +95,7 @@ line_fits a lines kept loose =
     && (leb a.loose loose
     && (is_line_of a.identity (rows_of_line a) a.earliest a.latest && is_before a lines))
 
--- ---- a tally, and what is refused
+-- ---- a tally
 
 -- a tally, with its lines from the array
 abbrev pub tally_of : Tally → List ℕ → pieces.Tally
@@ -134,11 +130,3 @@ Starts count kept loose t =
     (lines : List ℕ)
     → tally_of t lines
     ≡ record { lines = lines_at lines count; kept = kept; loose = loose; over = false; scan = start_scan }
-
--- a refused call leaves the report unchanged
-abbrev pub refused_report : Report → Refusal → model.Addition
-refused_report s why = model.addition (number_of why) 0 (report_of s)
-
--- no line, and the reason
-abbrev pub no_line_for : Refusal → model.LineAnswer
-no_line_for why = record { number = number_of why; line = model.no_line }

@@ -1,22 +1,17 @@
 -- The results of the calls on a report, as the model names them (document 02, A12).
-use Rattle.std.specs.Prelude.{ℕ, cond, List, eqb}
-use Rattle.base_refusal.specs.Number.{number_of, outcome_number}
+use Rattle.std.specs.Prelude.{ℕ, cond, List, eqb, Result, Ok, Err}
+use Rattle.std.specs.Result.{result_unwrap_or}
+use Rattle.base_refusal.specs.Number.{number_of}
 use Rattle.base_refusal.specs.declared.Refusal.TheVariants.{Mismatch}
-use Rattle.archive_file.specs.declared.ArchiveOutcome.{ArchiveOutcome}
-use Rattle.archive_file.specs.declared.ArchiveOutcome.TheVariants as outcome
 use Rattle.archive_file.specs.Archive.{scan_of}
 use Rattle.archive_report_model.specs.Report as model
 use Rattle.archive_report_model.specs.Pieces as pieces
 use Rattle.archive_report.specs.declared.Report.{Report}
-use Rattle.archive_report.specs.declared.Added.{Added}
 use Rattle.archive_report.specs.declared.Adding.{Adding}
-use Rattle.archive_report.specs.declared.Fed.{Fed}
-use Rattle.archive_report.specs.declared.Share.{Share}
-use Rattle.archive_report.specs.declared.Share.TheVariants as share
-use Rattle.archive_report.specs.declared.Looked.{Looked}
-use Rattle.archive_report.specs.declared.Looked.TheVariants as looked
-use Rattle.archive_report.specs.declared.LineAt.{LineAt}
+use Rattle.archive_report.specs.declared.Line.{Line}
 use Rattle.archive_report.specs.Lines.{lines_at, with_lines}
+use Rattle.archive_file.specs.declared.ArchiveError.{ArchiveError}
+use Rattle.base_refusal.specs.declared.Refusal.{Refusal}
 
 -- ---- a report: its lines are the first `count` of the array
 
@@ -25,39 +20,36 @@ report_of s = record { archives = s.archives; lines = lines_at s.lines s.count; 
 
 -- ---- results: the number, the position that goes with 12, and what else is returned
 
-abbrev pub archive_outcome_number : ArchiveOutcome → ℕ
-archive_outcome_number outcome.Done = 0
-archive_outcome_number (outcome.Damaged k) = number_of Mismatch
-archive_outcome_number (outcome.Refused why) = number_of why
+abbrev pub archive_outcome_number : Result Report ArchiveError → ℕ
+archive_outcome_number (Ok next) = 0
+archive_outcome_number (Err (ArchiveError.Damaged k)) = number_of Mismatch
+archive_outcome_number (Err (ArchiveError.Refused why)) = number_of why
 
-abbrev pub archive_outcome_position : ArchiveOutcome → ℕ
-archive_outcome_position outcome.Done = 0
-archive_outcome_position (outcome.Damaged k) = k
-archive_outcome_position (outcome.Refused why) = 0
+abbrev pub archive_outcome_position : Result Report ArchiveError → ℕ
+archive_outcome_position (Ok next) = 0
+archive_outcome_position (Err (ArchiveError.Damaged k)) = k
+archive_outcome_position (Err (ArchiveError.Refused why)) = 0
 
-abbrev pub added_result : Added → model.Addition
-added_result r = model.addition (archive_outcome_number r.answer) (archive_outcome_position r.answer)
-    (report_of r.next)
+abbrev pub added_result : Report → Result Report ArchiveError → model.Addition
+added_result old r =
+    model.addition (archive_outcome_number r) (archive_outcome_position r) (report_of (result_unwrap_or r old))
 
-abbrev pub share_result : Share → model.Share
-share_result (share.PerMille t) = record { number = 0; thousandths = t }
-share_result (share.Refused why) = record { number = number_of why; thousandths = 0 }
+abbrev pub share_result : Result ℕ Refusal → model.Share
+share_result (Ok t) = record { number = 0; thousandths = t }
+share_result (Err why) = record { number = number_of why; thousandths = 0 }
 
-abbrev pub looked_number : Looked → ℕ
-looked_number looked.Line = 0
-looked_number (looked.Refused why) = number_of why
-
-abbrev pub line_result : LineAt → model.LineAnswer
-line_result r = record {
-  number = looked_number r.answer;
-  line = record {
-    identity = r.identity;
-    kept = r.kept;
-    loose = r.loose;
-    earliest = r.earliest;
-    latest = r.latest;
-  };
+abbrev pub line_shown : Line → model.Line
+line_shown a = record {
+  identity = a.identity;
+  kept = a.kept;
+  loose = a.loose;
+  earliest = a.earliest;
+  latest = a.latest;
 }
+
+abbrev pub line_result : Result Line Refusal → model.LineAnswer
+line_result (Ok a) = record { number = 0; line = line_shown a }
+line_result (Err why) = record { number = number_of why; line = model.no_line }
 
 -- ---- an archive in pieces
 
@@ -73,8 +65,9 @@ adding_of a = record {
   };
 }
 
-abbrev pub add_piece_result : Fed → pieces.PieceAdded
-add_piece_result r = pieces.piece_answer (outcome_number r.answer) (adding_of r.next)
+abbrev pub add_piece_result : Adding → Result Adding Refusal → pieces.PieceAdded
+add_piece_result old (Ok next) = pieces.piece_answer 0 (adding_of next)
+add_piece_result old (Err why) = pieces.piece_answer (number_of why) (adding_of old)
 
 -- ---- every number of the array of lines: the lines, and after them what was there before; all unchanged with a
 -- refusal

@@ -5,17 +5,17 @@ mod lines;
 mod tally;
 
 ghost use Rattle.std.specs.Prelude.{◌≡◌, cond, ◌+◌, ◌*◌, ◌^◌, ◌≤◌, ◌<◌, replicate};
-ghost use Rattle.base_refusal.specs.Number.{number_of};
 ghost use Rattle.block_layout.specs.Block.{block_length};
+ghost use Rattle.std.specs.Result.{result_unwrap_or};
 ghost use Rattle.archive_report_model.specs.Report as model;
 ghost use Rattle.archive_model.specs.Buffer.{None, is_whole, max_blocks};
-ghost use Rattle.archive_report_model.specs.Pieces.{adding, tally_addition, closing, start_adding, is_adding, piece_answer, add_piece_of, ended_of};
+ghost use Rattle.archive_report_model.specs.Pieces.{adding, tally_addition, closing, start_adding, is_adding, add_piece_of, ended_of};
 ghost use Rattle.archive_report.specs.Lines.{lines_length};
 ghost use Rattle.archive_report.specs.Report.{report_of, added_result, share_result, line_result, adding_of, add_piece_result, lines_added, lines_fed, lines_ended};
-ghost use Rattle.archive_report.specs.Private.{tally_of, refused_report, no_line_for, Starts};
+ghost use Rattle.archive_report.specs.Private.{tally_of, Starts};
 
-use archive_file::{ArchiveOutcome, Scan, Stage};
-use base_refusal::{Outcome, Refusal};
+use archive_file::{ArchiveError, Scan, Stage};
+use base_refusal::Refusal;
 use block_layout::BLOCK_LENGTH;
 use tally::Tally;
 
@@ -23,6 +23,7 @@ use tally::Tally;
 pub(crate) const LINE_LENGTH: usize = 5;
 
 // The archives added so far: how many there are, how many lines, the totals, and the lines, five numbers each.
+// Kept (buffer): no heap, and C lends the array of the lines, five numbers for each.
 #[derive(Clone, Copy)]
 pub struct Report {
     pub archives: usize,
@@ -32,31 +33,9 @@ pub struct Report {
     pub lines: [u64; Report::MAX_LINES * LINE_LENGTH],
 }
 
-// The report after an archive; with a refusal, the report that was handed in.
-#[derive(Clone, Copy)]
-pub struct Added {
-    pub next: Report,
-    pub answer: ArchiveOutcome,
-}
-
-// The share of a report's rows in receptions, in whole thousandths.
-#[derive(Clone, Copy)]
-pub enum Share {
-    PerMille(u64),
-    Refused(Refusal),
-}
-
-// Whether there is such a line.
-#[derive(Clone, Copy)]
-pub enum Looked {
-    Line,
-    Refused(Refusal),
-}
-
-// A line of a report.
-#[derive(Clone, Copy)]
-pub struct LineAt {
-    pub answer: Looked,
+// A line of a report: a transmitter, its rows, and its earliest and latest time.
+#[derive(Clone, Copy, Debug, PartialEq, Eq)]
+pub struct Line {
     pub identity: u64,
     pub kept: u64,
     pub loose: u64,
@@ -75,13 +54,6 @@ pub struct Adding {
     pub loose: u64,
     pub over: bool,
     pub lines: [u64; Report::MAX_LINES * LINE_LENGTH],
-}
-
-// What is known after a piece; with a refusal, what was handed in.
-#[derive(Clone, Copy)]
-pub struct Fed {
-    pub next: Adding,
-    pub answer: Outcome,
 }
 
 impl Report {
@@ -104,16 +76,17 @@ impl Report {
     }
 
     // Adds the rows of an archive. Refused: 11 for a report that no archives give, 16, 12 with the position, 10 for a 65th archive, 17 for a 257th
-    // transmitter; then the report is unchanged.
-    pub fn add(self, buffer: &[u8]) -> Added
-        ensures result_value { added_result result ≡ model.add_of (report_of self) buffer.now }
-        ensures lines_value { result.next.lines ≡ lines_added (model.add_of (report_of self) buffer.now) self.lines }
+    // transmitter.
+    pub fn add(self, buffer: &[u8]) -> Result<Report, ArchiveError>
+        ensures result_value { added_result self result ≡ model.add_of (report_of self) buffer.now }
+        ensures lines_value { (result_unwrap_or result self).lines
+            ≡ lines_added (model.add_of (report_of self) buffer.now) self.lines }
     {
         if !is_report(self) {
-            return kept(self, Refusal::NotAccepted);
+            return Err(ArchiveError::Refused(Refusal::NotAccepted));
         }
         if !archive_file::is_whole(buffer.len()) {
-            return kept(self, Refusal::Size);
+            return Err(ArchiveError::Refused(Refusal::Size));
         }
         let mut lines = self.lines;
         let t = tally::add_blocks(&mut lines, start(self.count, self.kept, self.loose), buffer);
@@ -121,43 +94,34 @@ impl Report {
     }
 
     // Line `i`, in order of identity. Refused: 11, then 10 if there is no line i.
-    pub fn line(self, i: usize) -> LineAt
+    pub fn line(self, i: usize) -> Result<Line, Refusal>
         ensures { line_result result ≡ model.line_of_report (report_of self) i }
     {
         if !is_report(self) {
-            return no_line(Refusal::NotAccepted);
+            return Err(Refusal::NotAccepted);
         }
         if self.count <= i {
-            return no_line(Refusal::Argument);
+            return Err(Refusal::Argument);
         }
-        let lines = self.lines;
-        let at = LINE_LENGTH * i;
-        LineAt {
-            answer: Looked::Line,
-            identity: lines[at],
-            kept: lines[at + 1],
-            loose: lines[at + 2],
-            earliest: lines[at + 3],
-            latest: lines[at + 4],
-        }
+        Ok(lines::line_in(&self.lines, i))
     }
 
     // The share of its rows in the number received, in whole thousandths rounded down. Refused: 11, then 10 if that number is 0 or less than the
     // rows.
-    pub fn share(self, received: u64) -> Share
+    pub fn share(self, received: u64) -> Result<u64, Refusal>
         ensures { share_result result ≡ model.share_of (report_of self) received }
     {
         if !is_report(self) {
-            return Share::Refused(Refusal::NotAccepted);
+            return Err(Refusal::NotAccepted);
         }
         let rows = self.kept + self.loose;
         if received == 0 {
-            return Share::Refused(Refusal::Argument);
+            return Err(Refusal::Argument);
         }
         if received < rows {
-            return Share::Refused(Refusal::Argument);
+            return Err(Refusal::Argument);
         }
-        Share::PerMille(1000 * rows / received)
+        Ok(1000 * rows / received)
     }
 }
 
@@ -182,36 +146,37 @@ impl Adding {
 
     // Adds the blocks of a piece, in order. Refused: 11 if no pieces can give these numbers, 16 for a piece that isn't whole blocks, or if there are
     // then more than 2^32 blocks in all; then nothing is changed.
-    pub fn feed(self, piece: &[u8]) -> Fed
-        ensures result_value { add_piece_result result ≡ add_piece_of (adding_of self) piece.now }
-        ensures before_value { (result.next.before ≡ self.before)
-            × (result.next.lines ≡ lines_fed (add_piece_of (adding_of self) piece.now) self.lines) }
+    pub fn feed(self, piece: &[u8]) -> Result<Adding, Refusal>
+        ensures result_value { add_piece_result self result ≡ add_piece_of (adding_of self) piece.now }
+        ensures before_value { ((result_unwrap_or result self).before ≡ self.before)
+            × ((result_unwrap_or result self).lines ≡ lines_fed (add_piece_of (adding_of self) piece.now) self.lines) }
     {
         if !is_adding(self) {
-            return unchanged(self, Refusal::NotAccepted);
+            return Err(Refusal::NotAccepted);
         }
         let scan = self.scan;
         if !is_piece(scan.blocks, piece.len()) {
-            return unchanged(self, Refusal::Size);
+            return Err(Refusal::Size);
         }
         let mut lines = self.lines;
         let t = tally::add_blocks(&mut lines, so_far(self), piece);
         if t.over {
             let was = self.lines;
-            return taken(self, t, was);
+            return Ok(taken(self, t, was));
         }
-        taken(self, t, lines)
+        Ok(taken(self, t, lines))
     }
 
     // Returns what `add` answers for all pieces that were taken, as one archive. Refused: 11, 12 with the position, 10, 17; then the report is
     // unchanged.
-    pub fn end(self) -> Added
-        ensures result_value { added_result result ≡ ended_of (adding_of self) }
-        ensures lines_value { result.next.lines ≡ lines_ended (ended_of (adding_of self)) self.lines self.before.lines }
+    pub fn end(self) -> Result<Report, ArchiveError>
+        ensures result_value { added_result self.before result ≡ ended_of (adding_of self) }
+        ensures lines_value { (result_unwrap_or result self.before).lines
+            ≡ lines_ended (ended_of (adding_of self)) self.lines self.before.lines }
     {
         let before = self.before;
         if !is_adding(self) {
-            return kept(before, Refusal::NotAccepted);
+            return Err(ArchiveError::Refused(Refusal::NotAccepted));
         }
         let lines = self.lines;
         close(before, so_far(self), lines)
@@ -249,30 +214,6 @@ fn is_report(report: Report) -> bool
     lines::are_lines(&report.lines, count, kept, loose)
 }
 
-// A refusal: the report is unchanged.
-fn kept(s: Report, why: Refusal) -> Added
-    ensures { (added_result result ≡ refused_report s why) × (result.next.lines ≡ s.lines) }
-{
-    Added {
-        next: s,
-        answer: ArchiveOutcome::Refused(why),
-    }
-}
-
-// No line, and the reason.
-fn no_line(why: Refusal) -> LineAt
-    ensures { line_result result ≡ no_line_for why }
-{
-    LineAt {
-        answer: Looked::Refused(why),
-        identity: 0,
-        kept: 0,
-        loose: 0,
-        earliest: 0,
-        latest: 0,
-    }
-}
-
 // The tally before the first block.
 fn start(count: usize, kept: u64, loose: u64) -> Tally
     ensures { Starts count kept loose result }
@@ -287,45 +228,45 @@ fn start(count: usize, kept: u64, loose: u64) -> Tally
 }
 
 // The report after all blocks.
-fn close(before: Report, t: Tally, lines: [u64; Report::MAX_LINES * LINE_LENGTH]) -> Added
-    ensures { (added_result result ≡ closing (report_of before) (tally_of t lines))
-        × (result.next.lines ≡ lines_ended (added_result result) lines before.lines) }
+fn close(
+    before: Report,
+    t: Tally,
+    lines: [u64; Report::MAX_LINES * LINE_LENGTH],
+) -> Result<Report, ArchiveError>
+    ensures { (added_result before result ≡ closing (report_of before) (tally_of t lines))
+        × ((result_unwrap_or result before).lines ≡ lines_ended (added_result before result) lines before.lines) }
 {
     let scan = t.scan;
     let stage = scan.stage;
     match stage {
-        Stage::Filling => sum_up(before, t, lines),
-        Stage::Short => sum_up(before, t, lines),
-        Stage::Ended => sum_up(before, t, lines),
-        Stage::Wrong(k) => Added {
-            next: before,
-            answer: ArchiveOutcome::Damaged(k),
-        },
+        Stage::Filling | Stage::Short | Stage::Ended => sum_up(before, t, lines),
+        Stage::Wrong(k) => Err(ArchiveError::Damaged(k)),
     }
 }
 
 // The same if every block matches.
-fn sum_up(before: Report, t: Tally, lines: [u64; Report::MAX_LINES * LINE_LENGTH]) -> Added
-    ensures { (added_result result ≡ tally_addition (report_of before) (tally_of t lines) None)
-        × (result.next.lines ≡ lines_ended (added_result result) lines before.lines) }
+fn sum_up(
+    before: Report,
+    t: Tally,
+    lines: [u64; Report::MAX_LINES * LINE_LENGTH],
+) -> Result<Report, ArchiveError>
+    ensures { (added_result before result ≡ tally_addition (report_of before) (tally_of t lines) None)
+        × ((result_unwrap_or result before).lines ≡ lines_ended (added_result before result) lines before.lines) }
 {
     let archives = before.archives;
     if Report::MAX_ARCHIVES <= archives {
-        return kept(before, Refusal::Argument);
+        return Err(ArchiveError::Refused(Refusal::Argument));
     }
     if t.over {
-        return kept(before, Refusal::Transmitters);
+        return Err(ArchiveError::Refused(Refusal::Transmitters));
     }
-    Added {
-        next: Report {
-            archives: archives + 1,
-            count: t.count,
-            kept: t.kept,
-            loose: t.loose,
-            lines,
-        },
-        answer: ArchiveOutcome::Done,
-    }
+    Ok(Report {
+        archives: archives + 1,
+        count: t.count,
+        kept: t.kept,
+        loose: t.loose,
+        lines,
+    })
 }
 
 // ---- in pieces
@@ -344,34 +285,21 @@ fn so_far(a: Adding) -> Tally
     }
 }
 
-// A refusal: nothing is changed.
-fn unchanged(a: Adding, why: Refusal) -> Fed
-    ensures { (add_piece_result result ≡ piece_answer (number_of why) (adding_of a)) × (result.next ≡ a) }
-{
-    Fed {
-        next: a,
-        answer: Outcome::Refused(why),
-    }
-}
-
 // What is known after the blocks of a piece, with these lines.
-fn taken(a: Adding, t: Tally, lines: [u64; Report::MAX_LINES * LINE_LENGTH]) -> Fed
-    ensures { (add_piece_result result ≡ piece_answer 0 (adding (report_of a.before) (tally_of t lines)))
-        × (result.next.before ≡ a.before) × (result.next.lines ≡ lines) }
+fn taken(a: Adding, t: Tally, lines: [u64; Report::MAX_LINES * LINE_LENGTH]) -> Adding
+    ensures { (adding_of result ≡ adding (report_of a.before) (tally_of t lines))
+        × (result.before ≡ a.before) × (result.lines ≡ lines) }
 {
     let before = a.before;
     let scan = t.scan;
-    Fed {
-        next: Adding {
-            before,
-            scan,
-            count: t.count,
-            kept: t.kept,
-            loose: t.loose,
-            over: t.over,
-            lines,
-        },
-        answer: Outcome::Done,
+    Adding {
+        before,
+        scan,
+        count: t.count,
+        kept: t.kept,
+        loose: t.loose,
+        over: t.over,
+        lines,
     }
 }
 

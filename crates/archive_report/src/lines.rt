@@ -1,10 +1,11 @@
 // The lines of a report in one array, in order of identity. A line has five numbers: identity, KEPT rows, LOOSE rows, earliest and latest time.
-ghost use Rattle.std.specs.Prelude.{◌≡◌, true, cond, ◌&&◌, ltb, leb, eqb, ◌+◌, ◌-◌, ◌*◌, ◌^◌, ◌≤◌, ◌<◌, min, max, length};
+ghost use Rattle.std.specs.Prelude.{◌≡◌, true, cond, ◌&&◌, ltb, leb, eqb, ◌+◌, ◌-◌, ◌*◌, ◌^◌, ◌≤◌, ◌<◌, length};
 ghost use Rattle.archive_report_model.specs.Report.{max_lines, merged_line, rows_of_line, is_rising, is_tally};
 ghost use Rattle.archive_report.specs.Lines.{line_length, lines_length, line_at, lines_from, lines_at};
+ghost use Rattle.archive_report.specs.Report.{line_shown};
 ghost use Rattle.archive_report.specs.Private.{line_for, total_of, is_line_of, is_before, line_fits, Ordered, Place, Gap, Stored, Inserted};
 
-use crate::{LINE_LENGTH, Report};
+use crate::{LINE_LENGTH, Line, Report};
 
 // `end` if the first `end` lines exist and are below this identity, else `low`.
 fn step(lines: &[u64], count: usize, identity: u64, low: usize, end: usize) -> usize
@@ -32,7 +33,8 @@ fn find(lines: &[u64], count: usize, identity: u64) -> usize
     find_among(lines, count, identity, Report::MAX_LINES)
 }
 
-// The same if there are at most `most` lines. The steps are the same for every count, so they can be unrolled without a branch.
+// The same if there are at most `most` lines.
+// Kept (loop): the steps are the same for every count, so they can be unrolled without a branch; `binary_search` wants a slice of lines.
 fn find_among(lines: &[u64], count: usize, identity: u64, most: usize) -> usize
     requires { (length lines.now ≡ lines_length) × (count ≤ most) × (most ≤ max_lines) × Ordered lines.now count }
     ensures { Place lines.now count identity result }
@@ -63,86 +65,62 @@ fn make_gap(lines: &mut [u64], from: usize, end: usize)
     requires { (from ≤ end) × (end + line_length ≤ length lines.old) }
     ensures { Gap from end lines.old lines.new }
 {
-    let mut i = end;
-    while from < i {
-        i -= 1;
-        lines[i + LINE_LENGTH] = lines[i];
+    lines.copy_within(from..end, from + LINE_LENGTH);
+}
+
+// Line `i`.
+pub(crate) fn line_in(lines: &[u64], i: usize) -> Line
+    requires { (i < max_lines) × (length lines.now ≡ lines_length) }
+    ensures { line_shown result ≡ line_at lines.now i }
+{
+    let at = LINE_LENGTH * i;
+    Line {
+        identity: lines[at],
+        kept: lines[at + 1],
+        loose: lines[at + 2],
+        earliest: lines[at + 3],
+        latest: lines[at + 4],
     }
 }
 
 // Writes line `i`.
-fn store_line(
-    lines: &mut [u64],
-    i: usize,
-    identity: u64,
-    kept: u64,
-    loose: u64,
-    earliest: u64,
-    latest: u64,
-)
+fn store_line(lines: &mut [u64], i: usize, line: Line)
     requires { (i < max_lines) × (length lines.old ≡ lines_length) }
-    ensures { Stored i
-        (record { identity = identity; kept = kept; loose = loose; earliest = earliest; latest = latest })
-        lines.old lines.new }
+    ensures { Stored i (line_shown line) lines.old lines.new }
 {
     let at = LINE_LENGTH * i;
-    lines[at] = identity;
-    lines[at + 1] = kept;
-    lines[at + 2] = loose;
-    lines[at + 3] = earliest;
-    lines[at + 4] = latest;
+    lines[at] = line.identity;
+    lines[at + 1] = line.kept;
+    lines[at + 2] = line.loose;
+    lines[at + 3] = line.earliest;
+    lines[at + 4] = line.latest;
 }
 
-pub(crate) fn one_if(test: bool) -> u64
-    ensures { result ≡ cond test 1 0 }
+// The line of one row.
+fn line_for(identity: u64, time: u64, loose: bool) -> Line
+    ensures { line_shown result ≡ line_for identity time loose }
 {
-    if test {
-        return 1;
+    Line {
+        identity,
+        kept: u64::from(!loose),
+        loose: u64::from(loose),
+        earliest: time,
+        latest: time,
     }
-    0
 }
 
-fn none_if(test: bool) -> u64
-    ensures { result ≡ cond test 0 1 }
+// A line with one more row.
+fn with_row(line: Line, time: u64, loose: bool) -> Line
+    requires { rows_of_line (line_shown line) < 2 ^ 63 }
+    ensures { line_shown result ≡ merged_line (line_for line.identity time loose) (line_shown line) }
 {
-    if test {
-        return 0;
+    Line {
+        identity: line.identity,
+        kept: u64::from(!loose) + line.kept,
+        loose: u64::from(loose) + line.loose,
+        earliest: time.min(line.earliest),
+        latest: time.max(line.latest),
     }
-    1
-}
-
-fn least(a: u64, b: u64) -> u64
-    ensures { result ≡ min a b }
-{
-    if a <= b {
-        return a;
-    }
-    b
-}
-
-fn greatest(a: u64, b: u64) -> u64
-    ensures { result ≡ max a b }
-{
-    if a <= b {
-        return b;
-    }
-    a
-}
-
-// Counts one more row in line `i`.
-fn join_row(lines: &mut [u64], i: usize, time: u64, loose: bool)
-    requires { (i < max_lines) × (length lines.old ≡ lines_length) × (rows_of_line (line_at lines.old i) < 2 ^ 63) }
-    ensures { Stored i
-        (merged_line (line_for (line_at lines.old i).identity time loose) (line_at lines.old i))
-        lines.old lines.new }
-{
-    let at = LINE_LENGTH * i;
-    let identity = lines[at];
-    let kept = none_if(loose) + lines[at + 1];
-    let others = one_if(loose) + lines[at + 2];
-    let earliest = least(time, lines[at + 3]);
-    let latest = greatest(time, lines[at + 4]);
-    store_line(lines, i, identity, kept, others, earliest, latest);
 }
 
 // Counts a row in its line, or in a new one. Returns how many lines there are then; a 257th line is not stored.
@@ -159,22 +137,15 @@ pub(crate) fn add_row(
 {
     let i = find(lines, count, identity);
     if is_at(lines, count, i, identity) {
-        join_row(lines, i, time, loose);
+        let line = line_in(lines, i);
+        store_line(lines, i, with_row(line, time, loose));
         return count;
     }
     if count == Report::MAX_LINES {
         return count + 1;
     }
     make_gap(lines, LINE_LENGTH * i, LINE_LENGTH * count);
-    store_line(
-        lines,
-        i,
-        identity,
-        none_if(loose),
-        one_if(loose),
-        time,
-        time,
-    );
+    store_line(lines, i, line_for(identity, time, loose));
     count + 1
 }
 
@@ -193,11 +164,14 @@ fn is_before(lines: &[u64], count: usize, i: usize) -> bool
 }
 
 // Whether these can be the numbers of a line.
-fn is_line(identity: u64, rows: u64, earliest: u64, latest: u64) -> bool
-    ensures { result ≡ is_line_of identity rows earliest latest }
+fn is_line(line: Line) -> bool
+    requires { rows_of_line (line_shown line) < 2 ^ 63 }
+    ensures { result ≡ is_line_of line.identity (rows_of_line (line_shown line)) line.earliest line.latest }
 {
-    (identity < 4294967296)
-        & ((1 <= rows) & ((earliest <= latest) & ((1 < rows) | (earliest == latest))))
+    let rows = line.kept + line.loose;
+    (line.identity < 4294967296)
+        & ((1 <= rows)
+            & ((line.earliest <= line.latest) & ((1 < rows) | (line.earliest == line.latest))))
 }
 
 // Whether line `i` is a line, is below the next, and has no more rows than these totals.
@@ -207,18 +181,18 @@ fn fits(lines: &[u64], count: usize, i: usize, kept: u64, loose: u64) -> bool
         ≡ line_fits (line_at lines.now i) (lines_from lines.now (i + 1) (count - (i + 1))) kept
         loose }
 {
-    let at = LINE_LENGTH * i;
-    if kept < lines[at + 1] {
+    let line = line_in(lines, i);
+    if kept < line.kept {
         return false;
     }
-    if loose < lines[at + 2] {
+    if loose < line.loose {
         return false;
     }
-    let rows = lines[at + 1] + lines[at + 2];
-    is_line(lines[at], rows, lines[at + 3], lines[at + 4]) & is_before(lines, count, i)
+    is_line(line) & is_before(lines, count, i)
 }
 
 // Whether the first `count` lines are lines in order with these totals.
+// Kept (loop): each turn also reads the line after its own, so an iterator over lines would need the index as well.
 pub(crate) fn are_lines(lines: &[u64], count: usize, kept: u64, loose: u64) -> bool
     requires { (count ≤ max_lines) × (length lines.now ≡ lines_length) × (kept + loose < 2 ^ 63) }
     ensures { result ≡ is_tally (lines_at lines.now count) kept loose }

@@ -5,7 +5,9 @@ ghost use Rattle.block_layout.specs.Cell.{cell_length};
 ghost use Rattle.block_layout.specs.Block.{cells_per_block, block_length};
 ghost use Rattle.archive_model.specs.Row.{is_row, row_in};
 ghost use Rattle.archive_model.specs.Identity.{identity_of};
-ghost use Rattle.archive_model.specs.Buffer.{blocks_in, max_blocks};
+ghost use Rattle.archive_model.specs.Buffer.{blocks_in, max_blocks, scan_block};
+ghost use Rattle.archive_model.specs.Append.{is_scan};
+ghost use Rattle.archive_file.specs.Archive.{scan_of};
 ghost use Rattle.archive_report_model.specs.Report.{max_lines, is_rising, loose_in, line_of_row};
 ghost use Rattle.archive_report_model.specs.Pieces.{add_block, add_blocks};
 ghost use Rattle.archive_report.specs.Lines.{lines_length, lines_at};
@@ -76,7 +78,7 @@ fn loose_rows(block: &[u8], used: usize) -> u64
     let mut n = 0;
     for i in 0..used {
         let at = HEADER_LENGTH + CELL_LENGTH * i;
-        n += lines::one_if(is_loose(&block[at..at + CELL_LENGTH]));
+        n += u64::from(is_loose(&block[at..at + CELL_LENGTH]));
     }
     n
 }
@@ -104,6 +106,14 @@ fn overflowed(scan: Scan) -> Tally
     }
 }
 
+// The scan after one more block.
+fn scan_after(scan: Scan, block: &[u8]) -> Scan
+    requires { (length block.now ≡ block_length) × (scan.blocks < max_blocks) × (is_scan (scan_of scan) ≡ true) }
+    ensures { scan_of result ≡ scan_block (scan_of scan) block.now }
+{
+    scan.feed(block).unwrap_or(scan)
+}
+
 // Adds one block.
 fn add_block(lines: &mut [u64], t: Tally, block: &[u8]) -> Tally
     requires { (length block.now ≡ block_length) × (length lines.old ≡ lines_length) × (t.scan.blocks < max_blocks)
@@ -112,10 +122,8 @@ fn add_block(lines: &mut [u64], t: Tally, block: &[u8]) -> Tally
     ensures grows { Grows t result lines.old lines.new × (result.over ≡ true → result.count ≡ 0) }
 {
     let scan = t.scan;
-    let passed = scan.rows;
-    let fed = scan.feed(block);
-    let next = fed.next;
-    let used = next.rows - passed;
+    let next = scan_after(scan, block);
+    let used = next.rows - scan.rows;
     if t.over {
         return overflowed(next);
     }
@@ -141,13 +149,10 @@ pub(crate) fn add_blocks(lines: &mut [u64], t: Tally, piece: &[u8]) -> Tally
         ≡ add_blocks (tally_of t lines.old) (blocks_in piece.now) }
     ensures grows { Grows t result lines.old lines.new }
 {
+    let (blocks, _) = piece.as_chunks::<BLOCK_LENGTH>();
     let mut at = t;
-    for i in 0..piece.len() / BLOCK_LENGTH {
-        at = add_block(
-            lines,
-            at,
-            &piece[BLOCK_LENGTH * i..BLOCK_LENGTH * i + BLOCK_LENGTH],
-        );
+    for block in blocks {
+        at = add_block(lines, at, block);
     }
     at
 }

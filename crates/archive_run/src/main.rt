@@ -4,12 +4,10 @@
 
 mod reports;
 
-ghost use Rattle.std.specs.Prelude.{◌≡◌, ◌≤◌, ◌<◌, min, IfOk, length};
+ghost use Rattle.std.specs.Prelude.{◌≡◌, ◌≤◌, ◌<◌, IfOk, IfSome, length};
 
-use archive_file::{ArchiveOutcome, Found, Opened, RowAt, Scan, Stage};
-use archive_repack::Removed;
+use archive_file::{ArchiveError, Scan, Stage};
 use archive_report::Report;
-use base_refusal::Outcome;
 use std::io;
 use std::io::{BufWriter, Read, Write};
 
@@ -55,34 +53,19 @@ fn calls<R: Read, W: Write>(
     let mut report = Report::empty();
     let mut n: usize = 0;
     for _ in 0..most {
-        let next = called(input, to, buffer, n, out, list, report)?;
+        let Some(next) = called(input, to, buffer, n, out, list, report)? else {
+            break;
+        };
         n = next.len;
         report = next.report;
-        if !next.more {
-            break;
-        }
     }
     Ok(())
 }
 
-// The next record; `more` is false after the last one.
-#[derive(Clone, Copy)]
-struct Input {
-    more: bool,
-    bytes: [u8; test_io::LONG],
-}
-
-fn next_input<R: Read>(input: &mut R) -> io::Result<Input> {
-    let mut bytes = [0u8; test_io::LONG];
-    let more = test_io::next_long_record(input, &mut bytes)?;
-    Ok(Input { more, bytes })
-}
-
-// How long the archive's buffer is after a call, whether there was one, and the report.
+// How long the archive's buffer is after a call, and the report.
 #[derive(Clone, Copy)]
 struct Next {
     len: usize,
-    more: bool,
     report: Report,
 }
 
@@ -95,34 +78,27 @@ fn called<R: Read, W: Write>(
     out: &mut [u8],
     list: &mut [u64],
     report: Report,
-) -> io::Result<Next>
+) -> io::Result<Option<Next>>
     requires buffer_length { length buffer.old ≡ 24576 }
     requires n_bound { n ≤ 24576 }
     requires out_length { length out.old ≡ 24576 }
     requires list_length { length list.old ≡ 64 }
-    ensures { IfOk result (λ next. next.len ≤ 24576) }
+    ensures { IfOk result (λ next. IfSome next (λ x. x.len ≤ 24576)) }
 {
-    let next = next_input(input)?;
-    if !next.more {
-        return Ok(Next {
-            len: n,
-            more: false,
-            report,
-        });
+    let mut r = [0u8; test_io::LONG];
+    if !test_io::next_long_record(input, &mut r)? {
+        return Ok(None);
     }
-    let r = next.bytes;
     if reports::is_call(r[0]) {
-        return Ok(Next {
+        return Ok(Some(Next {
             len: n,
-            more: true,
             report: reports::call(to, &buffer[0..n], report, &r)?,
-        });
+        }));
     }
-    Ok(Next {
+    Ok(Some(Next {
         len: made(to, buffer, n, out, list, &r)?,
-        more: true,
         report,
-    })
+    }))
 }
 
 fn made<W: Write>(
@@ -140,22 +116,13 @@ fn made<W: Write>(
     requires r_length { length r.now ≡ 320 }
     ensures { IfOk result (λ len. len ≤ 24576) }
 {
-    if r[0] == 1 {
-        return fresh(to, buffer, block_layout::read_number(&r[1..5]));
+    match r[0] {
+        1 => return fresh(to, buffer, block_layout::read_number(&r[1..5])),
+        9 => salvage(to, &buffer[0..n], out, list, r)?,
+        10 => out_block(to, out, block_layout::read_number(&r[1..5]))?,
+        11 => put_list(to, list)?,
+        _ => call(to, &mut buffer[0..n], r)?,
     }
-    if r[0] == 9 {
-        salvage(to, &buffer[0..n], out, list, r)?;
-        return Ok(n);
-    }
-    if r[0] == 10 {
-        out_block(to, out, block_layout::read_number(&r[1..5]))?;
-        return Ok(n);
-    }
-    if r[0] == 11 {
-        put_list(to, list)?;
-        return Ok(n);
-    }
-    call(to, &mut buffer[0..n], r)?;
     Ok(n)
 }
 
@@ -207,14 +174,8 @@ fn store(buffer: &mut [u8], place: usize, bytes: &[u8])
     requires place_bound { place ≤ 24576 }
     requires bytes_length { length bytes.now ≤ 300 }
 {
-    for i in 0..bytes.len() {
-        store_one(buffer, place + i, bytes[i]);
-    }
-}
-
-fn store_one(buffer: &mut [u8], at: usize, byte: u8) {
-    if at < buffer.len() {
-        buffer[at] = byte;
+    for (to, byte) in buffer.iter_mut().skip(place).zip(bytes) {
+        *to = *byte;
     }
 }
 
@@ -242,33 +203,33 @@ fn append_at<W: Write>(to: &mut W, buffer: &mut [u8], r: &[u8]) -> io::Result<()
 }
 
 fn open<W: Write>(to: &mut W, buffer: &[u8]) -> io::Result<()> {
-    let answer = archive_file::open(buffer);
     test_io::text(to, b"OPEN ")?;
-    match answer {
-        Opened::Rows(n) => put_three(to, 0, 0, n),
-        Opened::Damaged(k) => put_three(to, 12, k, 0),
-        Opened::Refused(why) => put_three(to, base_refusal::number(why), 0, 0),
-    }
+    put_count(to, archive_file::open(buffer))
 }
 
 fn row<W: Write>(to: &mut W, buffer: &[u8], index: u64) -> io::Result<()> {
-    let found = archive_file::row_at(buffer, index as usize);
-    let answer = found.answer;
     test_io::text(to, b"ROW ")?;
-    match answer {
-        Found::Row => test_io::text(to, b"0")?,
-        Found::Refused(why) => test_io::decimal(to, base_refusal::number(why) as u64)?,
+    match archive_file::row_at(buffer, index as usize) {
+        Ok(found) => {
+            let len = (found.len as usize).min(found.bytes.len());
+            put_row(to, 0, found.time, found.loose, &found.bytes[0..len])
+        }
+        Err(why) => put_row(to, base_refusal::number(why), 0, false, b""),
     }
-    put_row(to, found)
 }
 
-fn put_row<W: Write>(to: &mut W, found: RowAt) -> io::Result<()> {
-    let bytes = found.bytes;
-    let len = least(base_numbers::u64_of_byte(found.len), 21);
-    put_number(to, found.time)?;
-    put_number(to, bit(found.loose))?;
+fn put_row<W: Write>(
+    to: &mut W,
+    number: u8,
+    time: u64,
+    loose: bool,
+    bytes: &[u8],
+) -> io::Result<()> {
+    test_io::decimal(to, u64::from(number))?;
+    put_number(to, time)?;
+    put_number(to, u64::from(loose))?;
     test_io::text(to, b" ")?;
-    test_io::hex(to, &bytes[0..len])?;
+    test_io::hex(to, bytes)?;
     test_io::text(to, b"\n")
 }
 
@@ -299,22 +260,18 @@ fn scan<W: Write>(to: &mut W, buffer: &[u8], blocks: u64) -> io::Result<()>
     let mut s = Scan::start();
     test_io::text(to, b"SCAN ")?;
     for part in buffer.chunks(step) {
-        let fed = s.feed(part);
-        if let Outcome::Refused(why) = fed.answer {
-            return put_three(to, base_refusal::number(why), 0, 0);
+        match s.feed(part) {
+            Ok(next) => s = next,
+            Err(why) => return put_three(to, base_refusal::number(why), 0, 0),
         }
-        s = fed.next;
     }
     put_scan(to, s)
 }
 
 // Prints the result of a scan of all blocks.
 fn put_scan<W: Write>(to: &mut W, s: Scan) -> io::Result<()> {
-    let stage = s.stage;
-    match stage {
-        Stage::Filling => put_three(to, 0, 0, s.rows),
-        Stage::Short => put_three(to, 0, 0, s.rows),
-        Stage::Ended => put_three(to, 0, 0, s.rows),
+    match s.stage {
+        Stage::Filling | Stage::Short | Stage::Ended => put_three(to, 0, 0, s.rows),
         Stage::Wrong(k) => put_three(to, 12, k, 0),
     }
 }
@@ -333,30 +290,14 @@ fn salvage<W: Write>(
     requires list_length { length list.old ≡ 64 }
     requires r_length { length r.now ≡ 320 }
 {
-    fill(out);
-    fill_list(list);
+    out.fill(0xEE);
+    list.fill(0xEEEE_EEEE_EEEE_EEEE);
     let end = least(block_layout::read_number(&r[1..5]), CAPACITY);
     let len = least(block_layout::read_number(&r[5..9]), POSITIONS);
-    let done = archive_repack::salvage(buffer, &mut out[0..end], &mut list[0..len]);
-    let answer = done.answer;
     test_io::text(to, b"SALVAGE ")?;
-    put_three(
-        to,
-        base_refusal::outcome_number(answer),
-        done.dropped,
-        done.rows,
-    )
-}
-
-fn fill(out: &mut [u8]) {
-    for i in 0..out.len() {
-        out[i] = 238;
-    }
-}
-
-fn fill_list(list: &mut [u64]) {
-    for i in 0..list.len() {
-        list[i] = 17216961135462248174;
+    match archive_repack::salvage(buffer, &mut out[0..end], &mut list[0..len]) {
+        Ok(done) => put_three(to, 0, done.dropped, done.rows),
+        Err(why) => put_three(to, base_refusal::number(why), 0, 0),
     }
 }
 
@@ -370,8 +311,8 @@ fn out_block<W: Write>(to: &mut W, out: &[u8], number: u64) -> io::Result<()>
 
 fn put_list<W: Write>(to: &mut W, list: &[u64]) -> io::Result<()> {
     test_io::text(to, b"LIST")?;
-    for i in 0..list.len() {
-        put_number(to, list[i])?;
+    for n in list {
+        put_number(to, *n)?;
     }
     test_io::text(to, b"\n")
 }
@@ -384,21 +325,16 @@ fn remove<W: Write>(to: &mut W, buffer: &mut [u8], r: &[u8]) -> io::Result<()>
     let mut identities = [0u32; IDENTITIES];
     read_identities(&mut identities, r);
     let count = least(base_numbers::u64_of_byte(r[1]), IDENTITIES);
-    let answer = archive_repack::remove(buffer, &identities[0..count]);
     test_io::text(to, b"REMOVE ")?;
-    match answer {
-        Removed::Done(freed) => put_three(to, 0, 0, freed),
-        Removed::Damaged(k) => put_three(to, 12, k, 0),
-        Removed::Refused(why) => put_three(to, base_refusal::number(why), 0, 0),
-    }
+    put_count(to, archive_repack::remove(buffer, &identities[0..count]))
 }
 
 fn read_identities(identities: &mut [u32], r: &[u8])
     requires identities_length { length identities.old ≡ 70 }
     requires r_length { length r.now ≡ 320 }
 {
-    for i in 0..identities.len() {
-        identities[i] = four_bytes(block_layout::read_number(&r[4 + 4 * i..4 + 4 * i + 4]));
+    for (identity, bytes) in identities.iter_mut().zip(r[4..].chunks_exact(4)) {
+        *identity = four_bytes(block_layout::read_number(bytes));
     }
 }
 
@@ -413,22 +349,29 @@ fn cut<W: Write>(to: &mut W, buffer: &mut [u8], r: &[u8]) -> io::Result<()>
     requires { length r.now ≡ 320 }
 {
     let rows = block_layout::read_number(&r[1..9]) as usize;
-    let answer = archive_cut::cut(buffer, rows);
     test_io::text(to, b"CUT ")?;
-    match answer {
-        ArchiveOutcome::Done => put_three(to, 0, 0, rows),
-        ArchiveOutcome::Damaged(k) => put_three(to, 12, k, 0),
-        ArchiveOutcome::Refused(why) => put_three(to, base_refusal::number(why), 0, 0),
-    }
+    put_count(to, archive_cut::cut(buffer, rows).map(|()| rows))
 }
 
 // ---- what is printed
 
-pub(crate) fn put_outcome<W: Write>(to: &mut W, answer: ArchiveOutcome) -> io::Result<()> {
+// A count, or the number of a refusal and its position.
+fn put_count<W: Write>(to: &mut W, answer: Result<usize, ArchiveError>) -> io::Result<()> {
     match answer {
-        ArchiveOutcome::Done => test_io::text(to, b"0 0"),
-        ArchiveOutcome::Damaged(k) => put_two(to, 12, k),
-        ArchiveOutcome::Refused(why) => put_two(to, base_refusal::number(why), 0),
+        Ok(n) => put_three(to, 0, 0, n),
+        Err(ArchiveError::Damaged(k)) => put_three(to, 12, k, 0),
+        Err(ArchiveError::Refused(why)) => put_three(to, base_refusal::number(why), 0, 0),
+    }
+}
+
+pub(crate) fn put_outcome<W: Write>(
+    to: &mut W,
+    answer: Result<(), ArchiveError>,
+) -> io::Result<()> {
+    match answer {
+        Ok(()) => test_io::text(to, b"0 0"),
+        Err(ArchiveError::Damaged(k)) => put_two(to, 12, k),
+        Err(ArchiveError::Refused(why)) => put_two(to, base_refusal::number(why), 0),
     }
 }
 
@@ -448,30 +391,13 @@ pub(crate) fn put_number<W: Write>(to: &mut W, n: u64) -> io::Result<()> {
     test_io::decimal(to, n)
 }
 
-fn bit(b: bool) -> u64 {
-    if b {
-        return 1;
-    }
-    0
-}
-
 // ---- numbers of records
 
 // A number of a record, or the bound if it is greater.
 pub(crate) fn least(x: u64, bound: usize) -> usize
     ensures { result ≤ bound }
 {
-    let n = x as usize;
-    smaller(n, bound)
-}
-
-fn smaller(n: usize, m: usize) -> usize
-    ensures { result ≡ min n m }
-{
-    if n < m {
-        return n;
-    }
-    m
+    (x as usize).min(bound)
 }
 
 // The number of blocks in a piece: at least one, and no more than the buffer has.
@@ -479,9 +405,5 @@ fn piece(blocks: u64) -> usize
     ensures low { 0 < result }
     ensures high { result ≤ 48 }
 {
-    let n = least(blocks, 48);
-    if n == 0 {
-        return 1;
-    }
-    n
+    least(blocks, 48).max(1)
 }

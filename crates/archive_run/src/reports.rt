@@ -1,12 +1,21 @@
 // Makes the calls of a report: operations 13 to 17.
 ghost use Rattle.std.specs.Prelude.{◌≡◌, ◌≤◌, length};
 
-use archive_report::{LineAt, Looked, Report, Share};
+use archive_report::{Line, Report};
 use std::io;
 use std::io::Write;
 
 // The last index of the array of lines.
 const LAST: usize = 1279;
+
+// What is printed beside a refusal.
+const NO_LINE: Line = Line {
+    identity: 0,
+    kept: 0,
+    loose: 0,
+    earliest: 0,
+    latest: 0,
+};
 
 // Whether an operation is one of them.
 pub(crate) fn is_call(operation: u8) -> bool {
@@ -37,11 +46,10 @@ fn emptied<W: Write>(to: &mut W) -> io::Result<Report> {
 }
 
 fn added<W: Write>(to: &mut W, buffer: &[u8], report: Report) -> io::Result<Report> {
-    let r = report.add(buffer);
-    let answer = r.answer;
-    let next = r.next;
+    let answer = report.add(buffer);
     test_io::text(to, b"ADD ")?;
-    crate::put_outcome(to, answer)?;
+    crate::put_outcome(to, answer.map(|_| ()))?;
+    let next = answer.unwrap_or(report);
     crate::put_number(to, next.archives as u64)?;
     crate::put_number(to, next.count as u64)?;
     crate::put_number(to, next.kept)?;
@@ -51,18 +59,16 @@ fn added<W: Write>(to: &mut W, buffer: &[u8], report: Report) -> io::Result<Repo
 }
 
 fn line<W: Write>(to: &mut W, report: Report, index: u64) -> io::Result<Report> {
-    let found = report.line(index as usize);
-    let answer = found.answer;
     test_io::text(to, b"LINE ")?;
-    match answer {
-        Looked::Line => test_io::text(to, b"0")?,
-        Looked::Refused(why) => test_io::decimal(to, base_refusal::number(why) as u64)?,
+    match report.line(index as usize) {
+        Ok(found) => put_line(to, 0, found)?,
+        Err(why) => put_line(to, base_refusal::number(why), NO_LINE)?,
     }
-    put_line(to, found)?;
     Ok(report)
 }
 
-fn put_line<W: Write>(to: &mut W, found: LineAt) -> io::Result<()> {
+fn put_line<W: Write>(to: &mut W, number: u8, found: Line) -> io::Result<()> {
+    test_io::decimal(to, u64::from(number))?;
     crate::put_number(to, found.identity)?;
     crate::put_number(to, found.kept)?;
     crate::put_number(to, found.loose)?;
@@ -72,11 +78,10 @@ fn put_line<W: Write>(to: &mut W, found: LineAt) -> io::Result<()> {
 }
 
 fn share<W: Write>(to: &mut W, report: Report, received: u64) -> io::Result<Report> {
-    let answer = report.share(received);
     test_io::text(to, b"SHARE ")?;
-    match answer {
-        Share::PerMille(t) => put_pair(to, 0, t)?,
-        Share::Refused(why) => put_pair(to, base_refusal::number(why), 0)?,
+    match report.share(received) {
+        Ok(t) => put_pair(to, 0, t)?,
+        Err(why) => put_pair(to, base_refusal::number(why), 0)?,
     }
     test_io::text(to, b"\n")?;
     Ok(report)

@@ -27,10 +27,7 @@ pub fn crc8(bytes: &[u8]) -> u8
     ensures { result ≡ crc_of bytes.now }
 {
     let n = bytes.len();
-    if n < 8 {
-        return each(bytes);
-    }
-    if 16 < n {
+    if n < 8 || 16 < n {
         return each(bytes);
     }
     let last = n - 8;
@@ -114,8 +111,8 @@ fn each(bytes: &[u8]) -> u8
 {
     let table = TABLE;
     let mut crc: u8 = 0;
-    for i in 0..bytes.len() {
-        crc = step(&table, crc, bytes[i]);
+    for b in bytes {
+        crc = step(&table, crc, *b);
     }
     crc
 }
@@ -125,5 +122,5 @@ fn step(table: &[u8; 256], crc: u8, byte: u8) -> u8
     requires { is_table table.now ≡ true }
     ensures { result ≡ step_of crc byte }
 {
-    table[(crc ^ byte) as usize]
+    table[usize::from(crc ^ byte)]
 }

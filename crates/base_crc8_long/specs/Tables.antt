@@ -1,6 +1,6 @@
 -- The tables of a CRC that takes eight bytes at a time, for the contracts of private functions. The public contract is
 -- that of `crc8`.
-use Rattle.std.specs.Prelude.{ℕ, zero, suc, Bool, ◌&&◌, List, ◌++◌, map, eqb, length, take}
+use Rattle.std.specs.Prelude.{ℕ, Bool, ◌&&◌, List, ◌++◌, map, eqb, length, take}
 use Rattle.base_lists.specs.Lists.{equal, up_from}
 use Rattle.base_crc8.specs.Crc8.{remainder_of}
 

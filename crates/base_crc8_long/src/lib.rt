@@ -114,8 +114,7 @@ const TABLES: [u8; 2048] = [
 pub fn crc8_long(bytes: &[u8]) -> u8
     ensures { result ≡ crc_of bytes.now }
 {
-    let tables = TABLES;
-    by_eight(&tables, bytes)
+    by_eight(&TABLES, bytes)
 }
 
 fn by_eight(tables: &[u8; 2048], bytes: &[u8]) -> u8
@@ -123,17 +122,17 @@ fn by_eight(tables: &[u8; 2048], bytes: &[u8]) -> u8
     ensures { result ≡ crc_of bytes.now }
 {
     let mut crc: u8 = 0;
-    let mut i: usize = 0;
-    while 8 <= bytes.len() - i {
-        crc = eight(tables, crc, &bytes[i..i + 8]);
-        i += 8;
+    let mut left = bytes;
+    while let Some((first, more)) = left.split_first_chunk::<8>() {
+        crc = eight(tables, crc, first);
+        left = more;
     }
-    rest(tables, crc, &bytes[i..bytes.len()])
+    rest(tables, crc, left)
 }
 
 // The CRC after eight more bytes. Each is looked up by itself: the remainder of a sum is the sum of the remainders.
-fn eight(tables: &[u8; 2048], crc: u8, b: &[u8]) -> u8
-    requires { (is_tables tables.now ≡ true) × (length b.now ≡ 8) }
+fn eight(tables: &[u8; 2048], crc: u8, b: &[u8; 8]) -> u8
+    requires { is_tables tables.now ≡ true }
     ensures { result ≡ crc_from crc b.now }
 {
     let r7 = power(tables, 0, b[7]);
@@ -152,8 +151,8 @@ fn rest(tables: &[u8; 2048], start: u8, bytes: &[u8]) -> u8
     ensures { result ≡ crc_from start bytes.now }
 {
     let mut crc = start;
-    for i in 0..bytes.len() {
-        crc = power(tables, 0, crc ^ bytes[i]);
+    for b in bytes {
+        crc = power(tables, 0, crc ^ *b);
     }
     crc
 }
@@ -163,5 +162,5 @@ fn power(tables: &[u8; 2048], j: usize, b: u8) -> u8
     requires { (is_tables tables.now ≡ true) × (j < 8) }
     ensures { result ≡ power_of (j + 1) b }
 {
-    tables[256 * j + b as usize]
+    tables[256 * j + usize::from(b)]
 }

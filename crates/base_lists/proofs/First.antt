@@ -1,4 +1,4 @@
--- `first_of`: a walk over a list turn by turn, with the test of all beside it, and that it names the first element that passes.
+-- `first_of` names the first element that passes; `any`, and `all` turned over, by it.
 use mathlib.Core.Path.{◌≡◌, refl, sym, ap, ◌∙◌}
 use mathlib.Core.Bool.{Bool, true, false, cond, not, ◌&&◌, ◌||◌, true≢false}
 use mathlib.Core.List.{List, [], ◌∷◌}
@@ -12,38 +12,6 @@ use lib.ListN.{length, get_or, drop, drop_of_length-le}
 use lib.Seq.{drop-cons}
 use borrow.Author.Tests.{lt-ltb, le-ltb}
 use Rattle.base_lists.specs.Lists.{any, all, first_of}
-
--- ---- turn by turn
-
-module _ {A : Type 0} (p : A → Bool) (l : List A) (i : ℕ) (d : A) where
-  module _ (h : i < length l) where
-    here : drop i l ≡ get_or l i d ∷ drop (i + 1) l
-    here = rw (add-one i) (drop-cons l i d h)
-
-    pub all_next : p (get_or l i d) ≡ true → all p (drop i l) ≡ all p (drop (i + 1) l)
-    all_next e = ap (all p) here ∙ rw e
-
-    pub all_stop : p (get_or l i d) ≡ false → all p (drop i l) ≡ false
-    all_stop e = ap (all p) here ∙ rw e
-
-    pub first_next : p (get_or l i d) ≡ false → i + first_of p (drop i l) ≡ i + 1 + first_of p (drop (i + 1) l)
-    first_next e =
-        let f : first_of p (drop i l) ≡ suc (first_of p (drop (i + 1) l)) = ap (first_of p) here ∙ rw e in
-        omega arith
-
-    pub first_stop : p (get_or l i d) ≡ true → i + first_of p (drop i l) ≡ i
-    first_stop e =
-        let f : first_of p (drop i l) ≡ 0 = ap (first_of p) here ∙ rw e in
-        omega arith
-
-  module _ (h : length l ≤ i) where
-    pub all_end : all p (drop i l) ≡ true
-    all_end = rw (drop_of_length-le l h)
-
-    pub first_end : i + first_of p (drop i l) ≡ i
-    first_end =
-        let f : first_of p (drop i l) ≡ 0 = rw (drop_of_length-le l h) in
-        omega arith
 
 -- ---- whether one passes
 

@@ -6,23 +6,23 @@ ghost use Rattle.std.specs.Prelude.{◌≡◌, ◌<◌};
 pub fn usize_of_byte(b: u8) -> usize
     ensures { (result ≡ b) × (result < 256) }
 {
-    b as usize
+    usize::from(b)
 }
 
 pub fn u32_of_byte(b: u8) -> u32
     ensures { (result ≡ b) × (result < 256) }
 {
-    b as u32
+    u32::from(b)
 }
 
 pub fn u64_of_byte(b: u8) -> u64
     ensures { (result ≡ b) × (result < 256) }
 {
-    b as u64
+    u64::from(b)
 }
 
 pub fn u64_of_u16(n: u16) -> u64
     ensures { (result ≡ n) × (result < 65536) }
 {
-    n as u64
+    u64::from(n)
 }

@@ -1,9 +1,7 @@
 -- The number of each refusal: the table of document 01, "Numbers a caller sees", and the numbers that document 02 adds.
-use Rattle.std.specs.Prelude.{ℕ}
+use Rattle.std.specs.Prelude.{ℕ, Result, Ok, Err, ⊤}
 use Rattle.base_refusal.specs.declared.Refusal.{Refusal}
 use Rattle.base_refusal.specs.declared.Refusal.TheVariants.{Length, Sum, Nested, NotAddressed, TooLong, ShortOutput, Late, Full, NoPlan, Argument, NotAccepted, Mismatch, Crc, ReservedAddress, Misfit, Size, Transmitters, Unlawful, Overlap}
-use Rattle.base_refusal.specs.declared.Outcome.{Outcome}
-use Rattle.base_refusal.specs.declared.Outcome.TheVariants.{Done, Refused}
 
 -- the number of a refusal
 abbrev pub number_of : Refusal → ℕ
@@ -28,6 +26,6 @@ number_of Unlawful = 18
 number_of Overlap = 19
 
 -- 0 says done; a refusal has its own number
-abbrev pub outcome_number : Outcome → ℕ
-outcome_number Done = 0
-outcome_number (Refused why) = number_of why
+abbrev pub outcome_number : Result ⊤ Refusal → ℕ
+outcome_number (Ok tt) = 0
+outcome_number (Err why) = number_of why

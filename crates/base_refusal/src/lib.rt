@@ -4,7 +4,7 @@
 ghost use Rattle.std.specs.Prelude.{◌≡◌};
 ghost use Rattle.base_refusal.specs.Number.{number_of, outcome_number};
 
-#[derive(Clone, Copy)]
+#[derive(Clone, Copy, Debug, PartialEq, Eq)]
 pub enum Refusal {
     // 1: the length is wrong.
     Length,
@@ -47,6 +47,7 @@ pub enum Refusal {
 }
 
 // The number of a refusal.
+// Kept (code): document 01 and C have the numbers, and the clause and six must-fail edits are of these arms.
 pub fn number(r: Refusal) -> u8
     ensures { result ≡ number_of r }
 {
@@ -73,19 +74,12 @@ pub fn number(r: Refusal) -> u8
     }
 }
 
-// Whether a call was done, or why it was refused.
-#[derive(Clone, Copy)]
-pub enum Outcome {
-    Done,
-    Refused(Refusal),
-}
-
 // The number of an outcome: 0 where the call was done.
-pub fn outcome_number(outcome: Outcome) -> u8
+pub fn outcome_number(outcome: Result<(), Refusal>) -> u8
     ensures { result ≡ outcome_number outcome }
 {
     match outcome {
-        Outcome::Done => 0,
-        Outcome::Refused(why) => number(why),
+        Ok(()) => 0,
+        Err(why) => number(why),
     }
 }

@@ -29,9 +29,7 @@ pub const BLOCK_LENGTH: usize = 512;
 pub fn clear(out: &mut [u8])
     ensures { out.new ≡ replicate (length out.old) 0 }
 {
-    for i in 0..out.len() {
-        out[i] = 0;
-    }
+    out.fill(0);
 }
 
 // Writes the low bytes of `n`, as many as `out` has, the highest first.
@@ -39,9 +37,7 @@ pub fn put_number(out: &mut [u8], n: u64)
     ensures { out.new ≡ be (length out.old) n }
 {
     let mut rest = n;
-    let mut i = out.len();
-    while 0 < i {
-        i -= 1;
+    for i in (0..out.len()).rev() {
         out[i] = (rest % 256) as u8;
         rest = rest / 256;
     }
@@ -51,9 +47,9 @@ pub fn put_number(out: &mut [u8], n: u64)
 pub fn put_bytes(out: &mut [u8], bytes: &[u8])
     ensures { out.new ≡ resized (length out.old) bytes.now }
 {
-    for i in 0..out.len() {
-        out[i] = byte_at(bytes, i);
-    }
+    let n = bytes.len().min(out.len());
+    out[..n].copy_from_slice(&bytes[..n]);
+    out[n..].fill(0);
 }
 
 // Writes the cell of an entry, with at most 21 bytes, into 32 bytes.
@@ -69,7 +65,7 @@ pub fn put_cell(out: &mut [u8], time: u64, bytes: &[u8], last: u16)
     put_number(&mut out[0..8], time);
     out[8] = bytes.len() as u8;
     put_bytes(&mut out[9..30], bytes);
-    put_number(&mut out[30..32], last as u64);
+    put_number(&mut out[30..32], u64::from(last));
 }
 
 // Writes the last byte of a block: the CRC of those before it.
@@ -89,10 +85,7 @@ pub fn seal(block: &mut [u8])
 pub fn byte_at(s: &[u8], i: usize) -> u8
     ensures { result ≡ get_or s.now i 0 }
 {
-    if i < s.len() {
-        return s[i];
-    }
-    0
+    s.get(i).copied().unwrap_or(0)
 }
 
 // The number in the first eight bytes, or in all if there are fewer.
@@ -100,8 +93,8 @@ pub fn read_number(s: &[u8]) -> u64
     ensures { result ≡ unbe (take 8 s.now) }
 {
     let mut n: u64 = 0;
-    for i in 0..least(8, s.len()) {
-        n = n * 256 + s[i] as u64;
+    for b in &s[..s.len().min(8)] {
+        n = n * 256 + u64::from(*b);
     }
     n
 }
@@ -113,7 +106,7 @@ pub fn number_at(s: &[u8], at: usize) -> u64
     if s.len() < at {
         return 0;
     }
-    read_number(&s[at..s.len()])
+    read_number(&s[at..])
 }
 
 // The time when it was opened.
@@ -134,8 +127,8 @@ pub fn cell_used(cell: &[u8]) -> u8
 pub fn cell_last(cell: &[u8]) -> u16
     ensures { result ≡ cell_last cell.now }
 {
-    let start = least(30, cell.len());
-    let end = least(32, cell.len());
+    let start = cell.len().min(30);
+    let end = cell.len().min(32);
     let last = read_number(&cell[start..end]);
     last as u16
 }
@@ -144,12 +137,13 @@ pub fn cell_last(cell: &[u8]) -> u16
 pub fn copy_field(out: &mut [u8], cell: &[u8])
     ensures { out.new ≡ resized (length out.old) (cell_field cell.now) }
 {
-    let start = least(9, cell.len());
-    let end = least(30, cell.len());
+    let start = cell.len().min(9);
+    let end = cell.len().min(30);
     put_bytes(out, &cell[start..end]);
 }
 
 // Whether two buffers hold the same bytes.
+// Kept (loop): tried: speed. `a == b` took 2.6 times as long for 21 bytes and 1.5 times for 400, because this loop has no branch before its end.
 pub fn equal(a: &[u8], b: &[u8]) -> bool
     ensures { result ≡ lists.equal a.now b.now }
 {
@@ -168,20 +162,8 @@ pub fn is_blank(s: &[u8]) -> bool
     ensures { result ≡ lists.all (λ b. eqb b 0) s.now }
 {
     let mut blank = true;
-    for i in 0..s.len() {
-        blank = blank & (s[i] == 0);
+    for b in s {
+        blank = blank & (*b == 0);
     }
     blank
-}
-
-// ---- helpers
-
-// The smaller of two.
-fn least(a: usize, b: usize) -> usize
-    ensures { result ≡ min a b }
-{
-    if a < b {
-        return a;
-    }
-    b
 }

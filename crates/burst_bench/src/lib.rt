@@ -21,9 +21,8 @@ pub extern "C" fn bench_burst(setting: u8, cells: &[u8], size: usize, rounds: u6
         places(),
         collector_burst::MAX_BURST,
     );
-    let done = first.bursted;
     bursts_from(
-        done.next,
+        first.bursted.unwrap_or(fresh),
         setting,
         records_from(cells, collector_burst::MAX_BURST),
         size,
@@ -42,13 +41,11 @@ fn bursts_from(
     let mut figure: u64 = 0;
     for i in 0..rounds {
         let lists = collector_burst::burst_within(c, setting, records, size, none, size);
-        let done = lists.bursted;
-        let next = done.next;
-        let totals = next.summary.totals;
+        let next = lists.bursted.unwrap_or(c);
         let replies = lists.replies;
         let k = place_of(i);
-        figure = std::num::wrapping_add_u64(figure, totals.kept);
-        figure = std::num::wrapping_add_u64(figure, weight(replies[k]));
+        figure = figure.wrapping_add(next.summary.totals.kept);
+        figure = figure.wrapping_add(weight(replies[k]));
     }
     figure
 }
@@ -65,6 +62,7 @@ fn records_from(cells: &[u8], k: usize) -> [Reception; collector_burst::LISTED]
     requires { k ≤ 256 }
 {
     let mut all = no_records();
+    // Kept (loop): no plainer: each turn needs the place of its cell, and the array is filled by value.
     for i in 0..collector_burst::MAX_BURST {
         all[i] = record_at(cells, CELL * (k + i));
     }
@@ -100,9 +98,9 @@ fn record_in(cell: &[u8]) -> Reception
     block_layout::put_bytes(&mut bytes, &cell[9..30]);
     let time = block_layout::cell_time(cell);
     Reception {
-        bytes: bytes,
+        bytes,
         len: cell[8],
-        time: time,
+        time,
     }
 }
 
@@ -110,7 +108,7 @@ fn places() -> [Reply; collector_burst::LISTED] {
     let sent = Frame::empty();
     let none = Reply {
         answer: Answer::Loose,
-        sent: sent,
+        sent,
     };
     [none; collector_burst::LISTED]
 }

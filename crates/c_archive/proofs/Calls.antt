@@ -1,75 +1,18 @@
--- Records by their fields; answers and lent memory, by the number; a row's bytes, zero filled.
+-- A row that is read: what is written of it, by the number; its bytes, zero filled.
 use mathlib.Core.Path.{◌≡◌, ap, ap₂, ◌∙◌}
-use mathlib.Core.Bool.{Bool, true, false}
+use mathlib.Core.Bool.{Bool}
 use mathlib.Core.List.{List, [], ◌∷◌, ◌++◌}
 use Prim.Native.Nat.{ℕ}
 use lib.ListN.{length, take}
 use borrow.Author.Tests.{eq-eqb, ne_eqb}
-use Rattle.base_refusal.specs.Number.{number_of}
-use Rattle.base_refusal.specs.declared.Refusal.{Refusal}
-use Rattle.base_refusal.proofs.Numbers.{refused-number}
 use Rattle.base_buffers.specs.Buffer.{resized}
 use Rattle.block_layout.specs.Cell.{cell_capacity, cell_field}
-use Rattle.archive_model.specs.Append.{Opening, Appended, refused_append, cell_at, row_at_of}
+use Rattle.archive_model.specs.Append.{cell_at, row_at_of}
 use Rattle.archive_model.proofs.Reading.{row_field}
 use Rattle.archive_file.specs.Archive.{ShownRow, row_shown}
-use Rattle.archive_repack_model.specs.Repack.{Salvaged, Removed}
 use Rattle.c_layout.specs.Frame.{wrong_size, frame_bytes, flag_byte}
-use Rattle.c_layout.specs.Lent.{if_mismatch}
 use Rattle.archive_fill.specs.Fill.{row_length}
-use Rattle.c_archive.specs.Calls.{open_call, append_call, has_place, put_rows_call, salvage_call, remove_call, row_bytes, row_answer, row_call}
-
--- ---- a refusal, and the position that goes with it
-
-abbrev pub opening : ℕ → ℕ → ℕ → Opening
-opening number position rows = record { number = number; position = position; rows = rows }
-
-abbrev pub removal : ℕ → ℕ → ℕ → List ℕ → Removed
-removal number position freed buffer = record { number = number; position = position; freed = freed; buffer = buffer }
-
-module _ (why : Refusal) (k old : ℕ) {n p : ℕ} (is : n ≡ number_of why)
-    (at : p ≡ if_mismatch (number_of why) k old) where
-  pub open_not : (rows : ℕ) → opening n p rows ≡ open_call (opening (number_of why) k 0) rows old
-  open_not rows = rw (ne_eqb (number_of why) 0 (refused-number why), is, at)
-
-  pub append_not : (buffer : List ℕ) → refused_append n p buffer
-      ≡ append_call (refused_append (number_of why) k buffer) old
-  append_not buffer = rw (is, at)
-
-  pub remove_not : (freed : ℕ) (buffer : List ℕ)
-      → removal n p freed buffer ≡ remove_call (removal (number_of why) k 0 buffer) freed old
-  remove_not freed buffer = rw (ne_eqb (number_of why) 0 (refused-number why), is, at)
-
--- ---- several rows
-
-module _ (n p : ℕ) {m : ℕ} {block : List ℕ} {a : Appended} (old : ℕ)
-    (told : n ≡ m) (is : refused_append m p block ≡ a) where
-  pub put-not : has_place n ≡ false → refused_append n old block ≡ put_rows_call a old
-  put-not h = rw (← is, ← told, h)
-
-  pub put_at : has_place n ≡ true → refused_append n p block ≡ put_rows_call a old
-  put_at h = rw (← is, ← told, h)
-
--- ---- salvage
-
-abbrev pub salvage : ℕ → ℕ → ℕ → List ℕ → List ℕ → Salvaged
-salvage number count rows output positions = record {
-  number = number;
-  count = count;
-  rows = rows;
-  output = output;
-  positions = positions;
-}
-
-module _ (n : ℕ) {m count rows : ℕ} {output positions : List ℕ} {a : Salvaged} (dropped old : ℕ) (told : n ≡ m)
-    (is : salvage m count rows output positions ≡ a) where
-  pub salvage_not : (n ≡ 0 → ⊥) → salvage n dropped old output positions ≡ salvage_call a dropped old
-  salvage_not h = rw (← is, ← told, ne_eqb n 0 h)
-
-  pub salvage_done : n ≡ 0 → salvage n count rows output positions ≡ salvage_call a dropped old
-  salvage_done h = rw (← is, ← told, eq-eqb n 0 h)
-
--- ---- a row
+use Rattle.c_archive.specs.Calls.{row_bytes, row_answer, row_call}
 
 module _ (buffer : List ℕ) (i : ℕ) (old : List ℕ) (was : ℕ) where
   pub row_other : (length old ≡ row_length → ⊥) → row_answer wrong_size old was ≡ row_call buffer i old was

@@ -1,20 +1,21 @@
 // Archives on plain numbers and bytes, as other languages call them.
+// Kept (code): the C interface: the calls answer by numbers.
 #![tactic(auto)]
 
-ghost use Rattle.std.specs.Prelude.{◌≡◌, cond, List, ℕ, ltb, length, take};
+ghost use Rattle.std.specs.Prelude.{◌≡◌, cond, Err, List, ℕ, ltb, length, take};
 ghost use Rattle.base_buffers.specs.Buffer.{resized};
+ghost use Rattle.base_refusal.specs.Number.{number_of};
 ghost use Rattle.block_layout.specs.Cell.{cell_capacity};
 ghost use Rattle.archive_model.specs.Append as calls;
-ghost use Rattle.archive_file.specs.Archive.{append_result, row_of, found_number};
+ghost use Rattle.archive_file.specs.Archive.{open_result, append_result, row_of};
 ghost use Rattle.archive_repack_model.specs.Repack as repack;
-ghost use Rattle.archive_repack.specs.Calls.{remove_result};
 ghost use Rattle.archive_cut.specs.Cut.{cut_of, cut_block_of};
 ghost use Rattle.archive_fill.specs.Fill.{put_rows_given};
+ghost use Rattle.c_layout.specs.Lent.{if_mismatch};
 ghost use Rattle.c_archive.specs.Calls.{open_call, append_call, has_place, put_rows_call, row_call, salvage_call, remove_call};
 
-use archive_file::{ArchiveOutcome, Found, Opened};
+use archive_file::ArchiveError;
 use archive_fill::ROW_LENGTH;
-use archive_repack::Removed;
 use base_refusal::Refusal;
 use block_layout::CELL_CAPACITY;
 use c_layout::WRONG_SIZE;
@@ -24,15 +25,7 @@ pub fn verify(buffer: &[u8], rows: &mut usize, position: &mut usize) -> u8
     ensures { record { number = result; position = position.new; rows = rows.new }
         ≡ open_call (calls.open_of buffer.now) rows.old position.old }
 {
-    let opened = archive_file::open(buffer);
-    match opened {
-        Opened::Rows(n) => {
-            *rows = n;
-            0
-        }
-        Opened::Damaged(k) => c_layout::refuse(Refusal::Mismatch, k, position),
-        Opened::Refused(why) => c_layout::refuse(why, 0, position),
-    }
+    settle_count(archive_file::open(buffer), rows, position)
 }
 
 // Appends a row. Refused: 16, 12 with the position, the check's number for the row, 6.
@@ -89,14 +82,15 @@ pub fn put_rows(block: &mut [u8], n: usize, times: &[u64], rows: &[u8], position
         ≡ put_rows_call (put_rows_given block.old n times.now rows.now)
         position.old }
 {
-    let filled = archive_fill::put_rows(block, n, times, rows);
-    let answer = filled.answer;
-    let number = base_refusal::outcome_number(answer);
-    if !has_place(number) {
-        return number;
+    match archive_fill::put_rows(block, n, times, rows) {
+        Ok(()) => 0,
+        Err(e) => {
+            if has_place(e.why) {
+                *position = e.position;
+            }
+            base_refusal::number(e.why)
+        }
     }
-    *position = filled.position;
-    number
 }
 
 // Reads row `i` into 23 bytes and its time, which are unchanged with a refusal: 255, then 16, 10, 12.
@@ -107,18 +101,16 @@ pub fn row_at(buffer: &[u8], i: usize, row: &mut [u8], time: &mut u64) -> u8
     if row.len() != ROW_LENGTH {
         return WRONG_SIZE;
     }
-    let found = archive_file::row_at(buffer, i);
-    let answer = found.answer;
-    let number = found_number(answer);
-    if number != 0 {
-        return number;
+    match archive_file::row_at(buffer, i) {
+        Ok(found) => {
+            row[0] = c_layout::flag_byte(found.loose);
+            row[1] = found.len;
+            put_filled(&mut row[2..ROW_LENGTH], &found.bytes, found.len as usize);
+            *time = found.time;
+            0
+        }
+        Err(why) => base_refusal::number(why),
     }
-    let bytes = found.bytes;
-    row[0] = c_layout::flag_byte(found.loose);
-    row[1] = found.len;
-    put_filled(&mut row[2..ROW_LENGTH], &bytes, found.len as usize);
-    *time = found.time;
-    number
 }
 
 // The first `n` of 21 bytes, filled with zeros. All 21 are read, so there is no branch on the length.
@@ -126,6 +118,7 @@ fn put_filled(out: &mut [u8], bytes: &[u8; CELL_CAPACITY], n: usize)
     requires { length out.old ≡ cell_capacity }
     ensures { out.new ≡ resized cell_capacity (take n bytes.now) }
 {
+    // Kept (loop): tried with `out.iter_mut().zip(bytes).enumerate()`: once that borrow ends, a proof knows the length of `out` and none of its bytes.
     for i in 0..CELL_CAPACITY {
         out[i] = byte_below(i, n, bytes[i]);
     }
@@ -135,10 +128,7 @@ fn put_filled(out: &mut [u8], bytes: &[u8; CELL_CAPACITY], n: usize)
 fn byte_below(i: usize, n: usize, byte: u8) -> u8
     ensures { result ≡ cond (ltb i n) byte 0 }
 {
-    if i < n {
-        return byte;
-    }
-    0
+    if i < n { byte } else { 0 }
 }
 
 // Packs a damaged archive again. Refused: 16, 6.
@@ -159,15 +149,14 @@ pub fn salvage(
         ≡ salvage_call (repack.salvage_of buffer.now out.old positions.old)
         dropped.old rows.old }
 {
-    let done = archive_repack::salvage(buffer, out, positions);
-    let answer = done.answer;
-    let taken = base_refusal::outcome_number(answer);
-    if taken != 0 {
-        return taken;
+    match archive_repack::salvage(buffer, out, positions) {
+        Ok(done) => {
+            *dropped = done.dropped;
+            *rows = done.rows;
+            0
+        }
+        Err(why) => base_refusal::number(why),
     }
-    *dropped = done.dropped;
-    *rows = done.rows;
-    taken
 }
 
 // Removes the rows of some transmitters in place. Refused: 16, 12 with the position, 10.
@@ -181,7 +170,7 @@ pub fn remove(buffer: &mut [u8], identities: &[u32], freed: &mut usize, position
         ≡ remove_call (repack.remove_of buffer.old identities.now) freed.old
         position.old }
 {
-    settle_removed(archive_repack::remove(buffer, identities), freed, position)
+    settle_count(archive_repack::remove(buffer, identities), freed, position)
 }
 
 // Keeps the first `rows` rows. Refused: 16, 12 with the position, 10.
@@ -199,47 +188,51 @@ pub fn cut_block(block: &mut [u8], rows: usize) -> u8
     base_refusal::outcome_number(archive_cut::cut_block(block, rows))
 }
 
-// The number of a removal, the number of freed blocks, and the position with 12.
-fn settle_removed(removed: Removed, freed: &mut usize, position: &mut usize) -> u8
-    ensures { (buffer : List ℕ)
-        → record { number = result; position = position.new; freed = freed.new; buffer = buffer }
-        ≡ remove_call (remove_result removed buffer) freed.old position.old }
+// The number of an outcome, the count that it has, and the position with 12.
+fn settle_count(outcome: Result<usize, ArchiveError>, count: &mut usize, position: &mut usize) -> u8
+    ensures { record { number = result; position = position.new; rows = count.new }
+        ≡ open_call (open_result outcome) count.old position.old }
 {
-    match removed {
-        Removed::Done(n) => {
-            *freed = n;
+    match outcome {
+        Ok(n) => {
+            *count = n;
             0
         }
-        Removed::Damaged(k) => c_layout::refuse(Refusal::Mismatch, k, position),
-        Removed::Refused(why) => c_layout::refuse(why, 0, position),
+        Err(e) => refuse(e, position),
     }
 }
 
 // The number of an outcome, and the position with 12.
-fn settle(outcome: ArchiveOutcome, position: &mut usize) -> u8
+fn settle(outcome: Result<(), ArchiveError>, position: &mut usize) -> u8
     ensures { (buffer : List ℕ)
         → record { number = result; position = position.new; buffer = buffer }
         ≡ append_call (append_result outcome buffer) position.old }
 {
     match outcome {
-        ArchiveOutcome::Done => 0,
-        ArchiveOutcome::Damaged(k) => c_layout::refuse(Refusal::Mismatch, k, position),
-        ArchiveOutcome::Refused(why) => c_layout::refuse(why, 0, position),
+        Ok(()) => 0,
+        Err(e) => refuse(e, position),
     }
 }
 
-// Whether a position goes with a number: with 12 and with the check's numbers.
-fn has_place(number: u8) -> bool
-    ensures { result ≡ has_place number }
+// The number of a refusal, and the position with 12.
+fn refuse(e: ArchiveError, position: &mut usize) -> u8
+    ensures { (result ≡ (open_result (Err e)).number)
+        × (position.new
+        ≡ if_mismatch (open_result (Err e)).number (open_result (Err e)).position position.old) }
 {
-    (number == 12) | ((number == 1) | (number == 2) | ((number == 13) | (number == 3)))
+    match e {
+        ArchiveError::Damaged(k) => c_layout::refuse(Refusal::Mismatch, k, position),
+        ArchiveError::Refused(why) => c_layout::refuse(why, 0, position),
+    }
 }
 
-fn found_number(found: Found) -> u8
-    ensures { result ≡ found_number found }
+// Whether a position goes with a refusal: with 12 and with the check's.
+#[tactic(auto, unfolding(crate::specs::Calls::has_place))]
+fn has_place(why: Refusal) -> bool
+    ensures { result ≡ has_place (number_of why) }
 {
-    match found {
-        Found::Row => 0,
-        Found::Refused(why) => base_refusal::number(why),
-    }
+    matches!(
+        why,
+        Refusal::Mismatch | Refusal::Length | Refusal::Sum | Refusal::Crc | Refusal::Nested
+    )
 }

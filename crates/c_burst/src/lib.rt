@@ -1,4 +1,5 @@
 // A burst of receptions at a collector in five lent arrays, as other languages call it.
+// Kept (code): the C interface: the calls answer by numbers.
 #![tactic(auto)]
 
 ghost use Rattle.std.specs.Prelude.{◌≡◌, true, List, ℕ, ◌*◌, ◌≤◌, ◌<◌, length, get_or, drop};
@@ -7,23 +8,22 @@ ghost use Rattle.base_buffers.specs.Buffer.{part};
 ghost use Rattle.collector_model.specs.Answer.{shown_of};
 ghost use Rattle.collector_model.specs.Acceptable.{acceptable};
 ghost use Rattle.collector_model.specs.Exact.{Fits};
-ghost use Rattle.collector_model.specs.Burst.{max_burst, call_number};
-ghost use Rattle.collector_state.specs.Collector.{columns, view_in};
+ghost use Rattle.collector_model.specs.Burst.{max_burst};
+ghost use Rattle.collector_state.specs.Collector as collector;
+ghost use Rattle.collector_state.specs.Collector.{columns_lent, view_in};
 ghost use Rattle.collector_state.specs.Admission.{Tested};
 ghost use Rattle.collector_burst.specs.Records.{size_of};
 ghost use Rattle.c_layout.specs.Frame.{frame_length};
-ghost use Rattle.c_collector.specs.State.{arrays, summary_in, state_at};
+ghost use Rattle.c_collector.specs.State.{arrays, arrays_in, SameLoans, summary_in, state_at};
 ghost use Rattle.c_burst.specs.Bytes.{reception_in, receptions_in, reply_length, reply_bytes, is_sized};
 ghost use Rattle.c_burst.specs.Calls.{Bursts};
 ghost use Rattle.c_burst.specs.Private.{Answered, Delivered};
 
 use base_refusal::Refusal;
-use c_collector::{BYTES, CAPACITY, NUMBERS};
+use c_collector::{Lent, NUMBERS};
 use c_layout::{FRAME_LENGTH, WRONG_SIZE};
-use collector_burst::MAX_BURST;
 use collector_model::Answer;
 use collector_state::{Collector, Summary, merging};
-use radio_telegram::repeater::MAX_SETTING;
 
 // The length of a reply: the kind and the number of an answer, and the frame that is sent.
 const REPLY_LENGTH: usize = 2 + FRAME_LENGTH;
@@ -31,40 +31,36 @@ const REPLY_LENGTH: usize = 2 + FRAME_LENGTH;
 // Takes receptions one by one, with one test of the state. Refused: 11, then 255 if there is not a frame for each time, 6, 10; then everything is
 // unchanged.
 pub fn burst(
-    times: &mut [u64; CAPACITY],
-    lengths: &mut [u8; CAPACITY],
-    bytes: &mut [u8; BYTES],
-    copies: &mut [u16; CAPACITY],
-    numbers: &mut [u64; NUMBERS],
+    state: &mut Lent,
     setting: u8,
     moments: &[u64],
     records: &[u8],
     replies: &mut [u8],
 ) -> u8
-    ensures { Bursts
-        (arrays times.old lengths.old bytes.old copies.old
-        numbers.old)
-        setting moments.now records.now replies.old result
-        (arrays times.new lengths.new bytes.new copies.new
-        numbers.new)
-        replies.new }
+    ensures bursts { Bursts (arrays_in state.old) setting moments.now records.now replies.old result
+        (arrays_in state.new) replies.new }
+    ensures same_loans { SameLoans state.old state.new }
 {
-    if !c_collector::is_acceptable(times, lengths, bytes, numbers) {
+    if !state.held().is_acceptable() {
         return base_refusal::number(Refusal::NotAccepted);
     }
     let n = moments.len();
     if !is_sized(n, records.len()) {
         return WRONG_SIZE;
     }
-    let number = call_number(setting, n, replies.len() / REPLY_LENGTH);
-    if number != 0 {
-        return number;
+    if let Err(why) = collector_burst::check_call(setting, n, replies.len() / REPLY_LENGTH) {
+        return base_refusal::number(why);
     }
-    let summary = summary_of(copies, numbers);
-    let next = deliver(
-        times, lengths, bytes, copies, summary, setting, moments, records, replies,
-    );
-    c_collector::store(next, numbers);
+    let summary = summary_of(state.copies, state.numbers);
+    let mut entries = collector_state::Lent {
+        times: &mut *state.times,
+        lens: &mut *state.lengths,
+        bytes: &mut *state.bytes,
+        copies: &mut *state.copies,
+        summary,
+    };
+    deliver(&mut entries, setting, moments, records, replies);
+    c_collector::store(entries.summary, state.numbers);
     0
 }
 
@@ -72,26 +68,7 @@ pub fn burst(
 fn is_sized(moments: usize, records: usize) -> bool
     ensures { result ≡ is_sized moments records }
 {
-    if records / FRAME_LENGTH != moments {
-        return false;
-    }
-    records % FRAME_LENGTH == 0
-}
-
-// The refusal of a burst for an acceptable state: 6, 10; 0 if it is not refused.
-fn call_number(setting: u8, receptions: usize, places: usize) -> u8
-    ensures { result ≡ call_number setting receptions places }
-{
-    if places < receptions {
-        return base_refusal::number(Refusal::ShortOutput);
-    }
-    if MAX_BURST < receptions {
-        return base_refusal::number(Refusal::Argument);
-    }
-    if MAX_SETTING < setting {
-        return base_refusal::number(Refusal::Argument);
-    }
-    0
+    (records / FRAME_LENGTH == moments) & (records % FRAME_LENGTH == 0)
 }
 
 // The summary of a state. Its contract also says that the numbers have the bits of their types: this is known for a slice, but not for a lent array.
@@ -105,72 +82,52 @@ fn summary_of(copies: &[u16], numbers: &[u64; NUMBERS]) -> Summary
 
 // Takes the receptions of all records, and writes the reply to each at the same index.
 fn deliver(
-    times: &mut [u64; CAPACITY],
-    lengths: &mut [u8; CAPACITY],
-    bytes: &mut [u8; BYTES],
-    copies: &mut [u16; CAPACITY],
-    summary: Summary,
+    state: &mut collector_state::Lent,
     setting: u8,
     moments: &[u64],
     records: &[u8],
     replies: &mut [u8],
-) -> Summary
+)
     requires { (length moments.now ≤ max_burst) × (length records.now ≡ frame_length * length moments.now)
         × (reply_length * length moments.now ≤ length replies.old)
-        × Tested true (view_in (columns times.old lengths.old bytes.old copies.old) summary) }
-    ensures { Delivered setting (view_in
-        (columns times.old lengths.old bytes.old copies.old) summary)
-        (columns times.old lengths.old bytes.old copies.old)
+        × Tested true (view_in (columns_lent state.old) state.old.summary) }
+    ensures delivers { Delivered setting (view_in (columns_lent state.old) state.old.summary) (columns_lent state.old)
         (receptions_in moments.now records.now) replies.old replies.new
-        (view_in (columns times.new lengths.new bytes.new copies.new) result)
-        (columns times.new lengths.new bytes.new copies.new) }
+        (view_in (columns_lent state.new) state.new.summary) (columns_lent state.new) }
+    ensures same_loans { collector.SameArrays state.old state.new }
 {
-    let mut s = summary;
+    // Kept (loop): two lists and a buffer of replies go along by one index, and a zip of three is no plainer.
     for i in 0..moments.len() {
-        s = take_frame(
-            times,
-            lengths,
-            bytes,
-            copies,
-            s,
+        take_frame(
+            state,
             setting,
             &records[FRAME_LENGTH * i..FRAME_LENGTH * i + FRAME_LENGTH],
             moments[i],
             &mut replies[REPLY_LENGTH * i..REPLY_LENGTH * i + REPLY_LENGTH],
         );
     }
-    s
 }
 
 // Takes the reception of one frame, for an acceptable state, and writes the reply.
-fn take_frame<'a>(
-    times: &'a mut [u64; CAPACITY],
-    lengths: &'a mut [u8; CAPACITY],
-    bytes: &'a mut [u8; BYTES],
-    copies: &'a mut [u16; CAPACITY],
-    summary: Summary,
+fn take_frame(
+    state: &mut collector_state::Lent,
     setting: u8,
-    frame: &'a [u8],
+    frame: &[u8],
     time: u64,
-    reply: &'a mut [u8],
-) -> Summary
+    reply: &mut [u8],
+)
     requires { (length frame.now ≡ frame_length) × (length reply.old ≡ reply_length)
-        × (acceptable (view_in (columns times.old lengths.old bytes.old copies.old) summary) ≡ true) }
-    ensures { Answered setting (view_in
-        (columns times.old lengths.old bytes.old copies.old) summary)
-        (columns times.old lengths.old bytes.old copies.old)
+        × (acceptable (view_in (columns_lent state.old) state.old.summary) ≡ true) }
+    ensures answers { Answered setting (view_in (columns_lent state.old) state.old.summary) (columns_lent state.old)
         (reception_in frame.now time) reply.new
-        (view_in (columns times.new lengths.new bytes.new copies.new) result)
-        (columns times.new lengths.new bytes.new copies.new) }
+        (view_in (columns_lent state.new) state.new.summary) (columns_lent state.new) }
+    ensures same_loans { collector.SameArrays state.old state.new }
 {
     let received = telegram_in(frame);
-    let done = merging::admit(true, times, lengths, bytes, copies, summary, received, time);
-    let next = done.summary;
-    let answer = done.answer;
+    let answer = state.admit(true, received, time);
     let mut sent = [0u8; Collector::MAX_LEN];
     let len = merging::relay_kept(setting, answer, received, &mut sent);
     put_reply(reply, answer, len, &sent);
-    next
 }
 
 // Writes the kind and the number of an answer, and the frame that is sent: its length is fixed, so it is copied at once.
@@ -190,7 +147,7 @@ fn telegram_in(frame: &[u8]) -> &[u8]
     requires { length frame.now ≡ frame_length }
     ensures { result.now ≡ part 0 (size_of (get_or frame.now 0 0)) (drop 1 frame.now) }
 {
-    let len = base_numbers::usize_of_byte(frame[0]);
+    let len = usize::from(frame[0]);
     if Collector::MAX_LEN < len {
         return &frame[1..1];
     }

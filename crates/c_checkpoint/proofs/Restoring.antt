@@ -1,11 +1,12 @@
 -- Restores of five arrays by their cases. An image is accepted alike whatever acceptable state it is restored to, also a fresh one.
 --     refused-state, refused-image, restored     what each return has to show
 use Prim.Native.Nat.{ℕ}
+use Rattle.std.specs.Prelude.{Result, Ok, Err}
 use mathlib.Core.Path.{◌≡◌, refl, sym, ap, ◌∙◌}
 use mathlib.Core.Bool.{true, false}
 use mathlib.Core.List.{List}
 use Rattle.base_lists.proofs.Tests.{by_test}
-use Rattle.base_refusal.specs.Number.{number_of, outcome_number}
+use Rattle.base_refusal.specs.Number.{number_of}
 use Rattle.base_refusal.specs.declared.Refusal.{Refusal}
 use Rattle.base_refusal.specs.declared.Refusal.TheVariants.{NotAccepted}
 use Rattle.base_refusal.proofs.Numbers.{refused-number}
@@ -15,9 +16,7 @@ use Rattle.collector_model.specs.Image.{RestoreResult, parse, accepts, restore_o
 use Rattle.collector_model.proofs.Invariant.{good_fresh, good_acceptable}
 use Rattle.collector_model.proofs.Returns.{restore_unacceptable}
 use Rattle.collector_state.specs.declared.Collector.{Collector}
-use Rattle.collector_state.specs.Collector.{columns_of, view_of}
-use Rattle.collector_checkpoint.specs.declared.Restored.{Restored}
-use Rattle.base_refusal.specs.declared.Outcome.TheVariants.{Done, Refused}
+use Rattle.collector_state.specs.Collector.{columns_of, view_of, next_number, next_in}
 use Rattle.collector_checkpoint.specs.Checkpoint as image
 use Rattle.c_collector.specs.State.{Arrays, columns_at, state_at, numbers_of, arrays_of}
 use Rattle.c_collector.proofs.State.{numbers-counted}
@@ -49,42 +48,45 @@ module _ (s : Arrays) (bytes : List ℕ) where
 
   -- the image is restored to a fresh collector
   module _ (ok : acceptable (state_at s) ≡ true) (c : Collector)
-      (new : view_of c ≡ fresh) (r : Restored) (done : image.Restores c bytes r) where
-    result : image.restore_result r ≡ restore_of fresh bytes
+      (new : view_of c ≡ fresh) (r : Result Collector Refusal) (done : image.Restores c bytes r) where
+    result : image.restore_result c r ≡ restore_of fresh bytes
     result = done.result ∙ ap (λ (v : View). restore_of v bytes) new
 
-    accepted : outcome_number r.answer ≡ 0 → accepts bytes ≡ true
+    accepted : next_number r ≡ 0 → accepts bytes ≡ true
     accepted z = by_test (accepts bytes) (λ e. e)
         (λ e.
         absurd (refused-number NotAccepted
         (ap (λ (x : RestoreResult). x.number) (kept fresh (good_acceptable good_fresh) bytes e ∙ sym result)
         ∙ z)))
 
-    not-accepted : (why : Refusal) → r.answer ≡ Refused why → accepts bytes ≡ false
+    not-accepted : (why : Refusal) → r ≡ Err why → accepts bytes ≡ false
     not-accepted why e = by_test (accepts bytes)
         (λ t.
         absurd (refused-number why
-        (ap outcome_number (sym e)
+        (ap next_number (sym e)
         ∙ ap (λ (x : RestoreResult). x.number) (result ∙ held fresh (good_acceptable good_fresh) bytes t))))
         (λ t. t)
 
-    pub refused-image : (why : Refusal) → r.answer ≡ Refused why
-        → (n : ℕ) → n ≡ number_of NotAccepted → Restores s bytes n s
+    pub refused-image : (why : Refusal) → r ≡ Err why → (n : ℕ) → n ≡ number_of NotAccepted → Restores s bytes n s
     refused-image why e = refused (kept (state_at s) ok bytes (not-accepted why e))
 
-    pub restored : r.answer ≡ Done → (s' : Arrays) → s' ≡ arrays_of r.next → Restores s bytes 0 s'
+    pub restored : (next : Collector) → r ≡ Ok next → (s' : Arrays) → s' ≡ arrays_of next → Restores s bytes 0 s'
     unfolding view_of
-    restored e s' put = record {
+    restored next e s' put = record {
       result =
-          ap (restore_result 0) put ∙ ap (λ (v : View). record { number = 0; next = v }) next
+          ap (restore_result 0) put ∙ ap (λ (v : View). record { number = 0; next = v }) parsed
           ∙ sym (held (state_at s) ok bytes yes);
-      counted = λ _. ap (λ (x : Arrays). x.numbers) put ∙ numbers-counted (columns_of r.next) _ ∙ ap numbers_of next;
-      elements = λ _. ap columns_at put ∙ done.elements (ap outcome_number e);
+      counted = λ _. ap (λ (x : Arrays). x.numbers) put ∙ numbers-counted (columns_of next) _ ∙ ap numbers_of parsed;
+      elements = λ _.
+          ap columns_at put ∙ ap (λ (x : Result Collector Refusal). columns_of (next_in c x)) (sym e)
+          ∙ done.elements (ap next_number e);
       stays = λ n. absurd (n refl);
     }
       where
         yes : accepts bytes ≡ true
-        yes = accepted (ap outcome_number e)
+        yes = accepted (ap next_number e)
 
-        next : view_of r.next ≡ parse bytes
-        next = ap (λ (x : RestoreResult). x.next) (result ∙ held fresh (good_acceptable good_fresh) bytes yes)
+        parsed : view_of next ≡ parse bytes
+        parsed =
+            ap (λ (x : Result Collector Refusal). view_of (next_in c x)) (sym e)
+            ∙ ap (λ (x : RestoreResult). x.next) (result ∙ held fresh (good_acceptable good_fresh) bytes yes)

@@ -1,4 +1,5 @@
 -- The calls by what is tested: a slice of another size, and one of the right size; how long what is read and sent is.
+use Rattle.std.specs.Prelude.{Option, Some, None, IfSome, is_some, unwrap_or, replicate}
 use mathlib.Core.Path.{◌≡◌, refl, sym, ap₂, ◌∙◌}
 use mathlib.Core.List.{List, [], ◌∷◌, ◌++◌}
 use Prim.Native.Nat.{ℕ, ◌≤◌, zero-le}
@@ -12,7 +13,7 @@ use Rattle.base_buffers.specs.Buffer.{resized}
 use Rattle.base_buffers.proofs.Buffer.{resized_whole}
 use Rattle.radio_telegram.specs.declared.fields.Telegram.{Telegram}
 use Rattle.radio_telegram.specs.Frame.{frame_of}
-use Rattle.radio_telegram.specs.Fields.{read_of, fields_of, max_data, build_of, Shaped}
+use Rattle.radio_telegram.specs.Fields.{read_of, fields_of, destid_of, max_data, build_of, Shaped}
 use Rattle.radio_telegram.specs.Repeater.{repeat_of, repeat_result}
 use Rattle.radio_telegram.proofs.Frames.{frame-len}
 use Rattle.radio_telegram.proofs.Laws.{repeat_sent}
@@ -92,16 +93,23 @@ sent-len setting s =
 
 -- ---- fields
 
+-- DESTID, or zeros, has four bytes
+pub destid_long : (o : Option (List ℕ)) → IfSome o (λ d. length d ≡ 4) → length (unwrap_or o (replicate 4 0)) ≡ 4
+destid_long None h = refl
+destid_long (Some d) h = h
+
 -- what is written, part by part
-pub fields_are : (t : Telegram) (flag : ℕ) → flag ≡ flag_byte t.addressed → Shaped t
-    → (t.rorg ∷ t.len ∷ flag ∷ t.status ∷ []) ++ resized 4 t.destid
+pub fields_are : (t : Telegram) (flag : ℕ) (destid : List ℕ)
+    → flag ≡ flag_byte (is_some t.destid) → destid ≡ destid_of t → Shaped t
+    → (t.rorg ∷ t.len ∷ flag ∷ t.status ∷ []) ++ resized 4 destid
     ++ resized 4 t.txid ++ resized 14 t.payload
     ≡ fields_bytes t
 unfolding fields_bytes
-fields_are t flag e s =
+fields_are t flag destid e d s =
     rw (
       e,
-      resized_whole 4 t.destid s.destid,
+      d,
+      resized_whole 4 (destid_of t) (destid_long t.destid s.destid),
       resized_whole 4 t.txid s.txid,
       resized_whole 14 t.payload s.payload,
     )

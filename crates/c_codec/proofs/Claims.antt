@@ -1,6 +1,7 @@
 -- The claim: each part of what is written is read where it stands.
-use mathlib.Core.Path.{◌≡◌, refl, ◌∙◌}
-use mathlib.Core.Bool.{Bool, true, false, not}
+use Rattle.std.specs.Prelude.{Option, Some, None, is_some, unwrap_or, replicate}
+use mathlib.Core.Path.{◌≡◌, refl, ap, ◌∙◌}
+use mathlib.Core.Bool.{cond}
 use mathlib.Core.List.{List, ◌++◌}
 use Prim.Native.Nat.{ℕ}
 use native.Mathlib.Omega.{arith}
@@ -11,10 +12,13 @@ use Rattle.base_buffers.proofs.Segments.{left, last, whole}
 use Rattle.c_layout.specs.Frame.{flag_byte}
 use Rattle.c_codec.specs.Fields.{fields_bytes, telegram_in}
 use Rattle.c_codec.specs.Claims.{SaidAgain}
+use Rattle.c_codec.proofs.Calls.{destid_long}
+use Rattle.radio_telegram.specs.Fields.{destid_of}
 
-flag_back : (b : Bool) → not (eqb (flag_byte b) 0) ≡ b
-flag_back true = refl
-flag_back false = refl
+destid_back : (o : Option (List ℕ)) (d : List ℕ) → d ≡ unwrap_or o (replicate 4 0)
+    → cond (eqb (flag_byte (is_some o)) 0) None (Some d) ≡ o
+destid_back None d e = refl
+destid_back (Some x) d e = ap Some e
 
 -- DESTID, TXID and DATA, one after the other
 module _ (a b c : List ℕ) (la : length a ≡ 4) (lb : length b ≡ 4) (lc : length c ≡ 14) where
@@ -33,15 +37,14 @@ module _ (a b c : List ℕ) (la : length a ≡ 4) (lb : length b ≡ 4) (lc : le
 pub said_again : SaidAgain
 unfolding fields_bytes telegram_in
 said_again t s =
-    let d = first t.destid t.txid t.payload s.destid s.txid s.payload in
-    let x = second t.destid t.txid t.payload s.destid s.txid s.payload in
-    let p = third t.destid t.txid t.payload s.destid s.txid s.payload in
-    let f = flag_back t.addressed in
+    let four = destid_long t.destid s.destid in
+    let d = destid_back t.destid _ (first (destid_of t) t.txid t.payload four s.txid s.payload) in
+    let x = second (destid_of t) t.txid t.payload four s.txid s.payload in
+    let p = third (destid_of t) t.txid t.payload four s.txid s.payload in
     λ i. record {
       rorg = t.rorg;
       payload = p i;
       len = t.len;
-      addressed = f i;
       destid = d i;
       txid = x i;
       status = t.status;

@@ -1,16 +1,16 @@
 // The codec on plain numbers and bytes, as other languages call it: each call returns a number, and writes values into lent memory.
+// Kept (code): the C interface: the calls answer by numbers.
 #![tactic(auto)]
 
 ghost use Rattle.std.specs.Prelude.{◌≡◌, ◌<◌, length};
 ghost use Rattle.block_layout.specs.BigEndian.{be};
-ghost use Rattle.radio_telegram.specs.Fields.{max_data};
 ghost use Rattle.radio_telegram.specs.Addressing.{encapsulate_of, decapsulate_of};
 ghost use Rattle.c_layout.specs.Lent.{settled};
 ghost use Rattle.c_codec.specs.Fields.{fields_length, fields_bytes, telegram_in};
 ghost use Rattle.c_codec.specs.Calls.{read_call, build_call, repeat_call};
 
 use c_layout::{FRAME_LENGTH, WRONG_SIZE};
-use radio_telegram::fields::{MAX_DATA, Telegram};
+use radio_telegram::fields::Telegram;
 use radio_telegram::{addressing, fields, repeater};
 
 // The length of a telegram's fields.
@@ -24,15 +24,13 @@ pub fn read(bytes: &[u8], fields: &mut [u8]) -> u8
     if fields.len() != FIELDS_LENGTH {
         return WRONG_SIZE;
     }
-    let reading = fields::read(bytes);
-    let checked = reading.checked;
-    let check = c_layout::checked_number(checked);
-    if check != 0 {
-        return check;
+    match fields::read(bytes) {
+        Ok(t) => {
+            put_fields(fields, t);
+            0
+        }
+        Err(unread) => base_refusal::number(unread),
     }
-    let t = reading.telegram;
-    put_fields(fields, t);
-    check
 }
 
 // Builds the telegram of these 26 bytes into `out`. Refused: 255, then 10, 5, 6.
@@ -74,16 +72,13 @@ pub fn repeat(setting: u8, bytes: &[u8], sent: &mut [u8]) -> u8
     if sent.len() != FRAME_LENGTH {
         return WRONG_SIZE;
     }
-    let repeated = repeater::repeat(setting, bytes);
-    let answer = repeated.answer;
-    let number = c_layout::checked_number(answer);
-    if number != 0 {
-        return number;
+    match repeater::repeat(setting, bytes) {
+        Ok(frame) => {
+            c_layout::put_frame(sent, frame.len as u8, &frame.bytes);
+            0
+        }
+        Err(why) => base_refusal::number(why),
     }
-    let frame = repeated.sent;
-    let raised = frame.bytes;
-    c_layout::put_frame(sent, frame.len as u8, &raised);
-    number
 }
 
 // ---- fields
@@ -92,58 +87,35 @@ fn put_fields(out: &mut [u8], t: Telegram)
     requires { (length out.old ≡ fields_length) × (t.len < 256) }
     ensures { out.new ≡ fields_bytes t }
 {
-    let destid = t.destid;
-    let txid = t.txid;
-    let payload = t.payload;
+    let destid = t.destid.unwrap_or([0u8; 4]);
     out[0] = t.rorg;
     out[1] = t.len as u8;
-    out[2] = c_layout::flag_byte(t.addressed);
+    out[2] = c_layout::flag_byte(t.destid.is_some());
     out[3] = t.status;
     block_layout::put_bytes(&mut out[4..8], &destid);
-    block_layout::put_bytes(&mut out[8..12], &txid);
-    block_layout::put_bytes(&mut out[12..FIELDS_LENGTH], &payload);
+    block_layout::put_bytes(&mut out[8..12], &t.txid);
+    block_layout::put_bytes(&mut out[12..FIELDS_LENGTH], &t.payload);
 }
 
 fn telegram_in(fields: &[u8]) -> Telegram
     requires { length fields.now ≡ fields_length }
     ensures { result ≡ telegram_in fields.now }
 {
-    let destid = id_in(&fields[4..8]);
-    let txid = id_in(&fields[8..12]);
-    let payload = payload_in(&fields[12..FIELDS_LENGTH]);
+    let destid = base_bytes::array_of(&fields[4..8]);
     Telegram {
         rorg: fields[0],
-        payload: payload,
-        len: fields[1] as usize,
-        addressed: fields[2] != 0,
-        destid: destid,
-        txid: txid,
+        payload: base_bytes::array_of(&fields[12..FIELDS_LENGTH]),
+        len: usize::from(fields[1]),
+        destid: (fields[2] != 0).then_some(destid),
+        txid: base_bytes::array_of(&fields[8..12]),
         status: fields[3],
     }
-}
-
-fn id_in(part: &[u8]) -> [u8; 4]
-    requires { length part.now ≡ 4 }
-    ensures { result ≡ part.now }
-{
-    let mut id = [0u8; 4];
-    base_bytes::copy(part, &mut id);
-    id
-}
-
-fn payload_in(part: &[u8]) -> [u8; MAX_DATA]
-    requires { length part.now ≡ max_data }
-    ensures { result ≡ part.now }
-{
-    let mut payload = [0u8; MAX_DATA];
-    base_bytes::copy(part, &mut payload);
-    payload
 }
 
 fn id_bytes(id: u32) -> [u8; 4]
     ensures { result ≡ be 4 id }
 {
     let mut bytes = [0u8; 4];
-    block_layout::put_number(&mut bytes, id as u64);
+    block_layout::put_number(&mut bytes, u64::from(id));
     bytes
 }

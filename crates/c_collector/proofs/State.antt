@@ -1,4 +1,5 @@
 -- The five arrays of a collector.
+--     same_loans        the same arrays are lent
 --     numbers-back      eight numbers, read and written again
 --     numbers-counted   the numbers of what a state holds beside its columns are those of the state
 --     told              one reception, admitted as was told
@@ -20,13 +21,16 @@ use Rattle.collector_model.specs.Acceptable.{acceptable}
 use Rattle.collector_model.specs.Step.{StepOutcome, step}
 use Rattle.collector_model.specs.Heard.{HeardResult, copies_of}
 use Rattle.collector_state.specs.declared.Summary.{Summary}
-use Rattle.collector_state.specs.declared.merging.Admitted.{Admitted}
 use Rattle.collector_state.specs.Collector.{Columns, view_in}
-use Rattle.collector_state.specs.Admission.{admitted_of, admission, columns_admitted, Admits}
+use Rattle.collector_state.specs.Admission.{Admitted, admitted_of, admission, columns_admitted, Admits}
 use Rattle.collector_state.proofs.Arrays.{entries-length}
 use Rattle.collector_state.proofs.Stepping.{admission-fit, columns-fit}
-use Rattle.c_collector.specs.State.{Arrays, arrays, columns_at, summary_in, state_at, total_numbers, numbers_of, summary_numbers}
+use Rattle.c_collector.specs.declared.Lent.{Lent}
+use Rattle.c_collector.specs.State.{SameLoans, Arrays, arrays, columns_at, summary_in, state_at, total_numbers, numbers_of, summary_numbers}
 use Rattle.c_collector.specs.Calls.{answer_number, Takes, TakesTold, ToldTakes, TotalsCall, totals_call, copies_call}
+
+pub same_loans : (s : Lent) → SameLoans s s
+same_loans s = record { times = refl; lengths = refl; bytes = refl; copies = refl; numbers = refl }
 
 pub numbers-back : (l : List ℕ) → length l ≡ 8 → summary_numbers (summary_in l) ≡ l
 numbers-back [] e = absurd (omega arith)

@@ -1,7 +1,9 @@
 -- A collector in five arrays of numbers, and the state in them.
-use Rattle.std.specs.Prelude.{ℕ, List, [], ◌∷◌, length, get_or}
+use Rattle.std.specs.Prelude.{ℕ, ◌≡◌, List, [], ◌∷◌, length, get_or}
 use Rattle.collector_model.specs.declared.Totals.{Totals}
 use Rattle.collector_model.specs.View.{View}
+use Rattle.c_collector.specs.declared.Held.{Held}
+use Rattle.c_collector.specs.declared.Lent.{Lent}
 use Rattle.collector_state.specs.declared.Collector.{Collector}
 use Rattle.collector_state.specs.declared.Summary.{Summary}
 use Rattle.collector_state.specs.Collector.{Columns, columns, view_in}
@@ -62,3 +64,18 @@ summary_numbers s = s.count ∷ s.latest ∷ total_numbers s.totals
 -- the arrays of a state that is held by value
 abbrev pub arrays_of : Collector → Arrays
 arrays_of c = arrays c.times c.lens c.bytes c.copies (summary_numbers c.summary)
+
+-- the five arrays of a state that is lent, to be changed and to be read
+abbrev pub arrays_in : Lent → Arrays
+arrays_in s = arrays s.times.now s.lengths.now s.bytes.now s.copies.now s.numbers.now
+
+abbrev pub arrays_held : Held → Arrays
+arrays_held s = arrays s.times.now s.lengths.now s.bytes.now s.copies.now s.numbers.now
+
+-- after a call the same five arrays are lent
+pub record SameLoans (s s' : Lent) : Type 0 where
+  pub times : s'.times.ghost_name ≡ s.times.ghost_name
+  pub lengths : s'.lengths.ghost_name ≡ s.lengths.ghost_name
+  pub bytes : s'.bytes.ghost_name ≡ s.bytes.ghost_name
+  pub copies : s'.copies.ghost_name ≡ s.copies.ghost_name
+  pub numbers : s'.numbers.ghost_name ≡ s.numbers.ghost_name

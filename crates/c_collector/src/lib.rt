@@ -1,15 +1,16 @@
 // The collector in five lent arrays, as other languages call it: the four of the entries, and its eight numbers. It is changed in place.
+// Kept (code, buffer): the C interface takes arrays of numbers and a count in them, and gets the number of a refusal.
 #![tactic(auto)]
 
-ghost use Rattle.std.specs.Prelude.{◌≡◌, List, ℕ, length};
+ghost use Rattle.std.specs.Prelude.{◌≡◌, length};
 ghost use Rattle.collector_model.specs.Answer.{shown_of, shown_number};
 ghost use Rattle.collector_model.specs.Acceptable.{acceptable};
-ghost use Rattle.c_collector.specs.State.{arrays, summary_in, state_at, summary_numbers};
+ghost use Rattle.c_collector.specs.State.{arrays_in, arrays_held, SameLoans, summary_in, state_at, summary_numbers};
 ghost use Rattle.c_collector.specs.Calls.{kind_of, answer_number, Takes, TakesTold, Fresh, totals_call, copies_call};
 
 use base_refusal::Refusal;
 use collector_model::{Answer, Totals};
-use collector_state::{Collector, Summary, acceptable, merging};
+use collector_state::{Collector, Summary, acceptable};
 
 // How many telegrams can be open.
 pub const CAPACITY: usize = Collector::CAPACITY;
@@ -23,135 +24,123 @@ pub const NUMBERS: usize = 8;
 // Received, kept, copies, loose, damaged, late.
 pub const TOTALS: usize = 6;
 
-// A collector with no telegram open and nothing counted.
-pub fn fresh(
-    times: &mut [u64; CAPACITY],
-    lengths: &mut [u8; CAPACITY],
-    bytes: &mut [u8; BYTES],
-    copies: &mut [u16; CAPACITY],
-    numbers: &mut [u64; NUMBERS],
-)
-    ensures { Fresh
-        (arrays times.new lengths.new bytes.new copies.new
-        numbers.new) }
-{
-    *times = [0u64; CAPACITY];
-    *lengths = [0u8; CAPACITY];
-    *bytes = [0u8; BYTES];
-    *copies = [0u16; CAPACITY];
-    *numbers = [0u64; NUMBERS];
+// The five arrays of a state, lent to be read.
+#[derive(Clone, Copy)]
+pub struct Held<'a> {
+    pub times: &'a [u64; CAPACITY],
+    pub lengths: &'a [u8; CAPACITY],
+    pub bytes: &'a [u8; BYTES],
+    pub copies: &'a [u16; CAPACITY],
+    pub numbers: &'a [u64; NUMBERS],
 }
 
-// Takes one reception: its bytes and the moment they were complete. The state is tested once.
-pub fn take<'a>(
-    times: &'a mut [u64; CAPACITY],
-    lengths: &'a mut [u8; CAPACITY],
-    bytes: &'a mut [u8; BYTES],
-    copies: &'a mut [u16; CAPACITY],
-    numbers: &'a mut [u64; NUMBERS],
-    received: &'a [u8],
-    time: u64,
-) -> u16
-    ensures { Takes
-        (arrays times.old lengths.old bytes.entry.now copies.old
-        numbers.old)
-        (record { bytes = received.now; time = time }) result
-        (arrays times.new lengths.new bytes.exit.now copies.new
-        numbers.new) }
-{
-    let fit = is_acceptable(times, lengths, bytes, numbers);
-    take_told(fit, times, lengths, bytes, copies, numbers, received, time)
+// The same, lent to be changed.
+#[derive(Drop)]
+pub struct Lent<'a> {
+    pub times: &'a mut [u64; CAPACITY],
+    pub lengths: &'a mut [u8; CAPACITY],
+    pub bytes: &'a mut [u8; BYTES],
+    pub copies: &'a mut [u16; CAPACITY],
+    pub numbers: &'a mut [u64; NUMBERS],
 }
 
-// Takes one reception; the caller gives the result of the test of the state, so the test is not made again. If that result is wrong, the arrays
-// become what `admission` says. With every refusal the entries are unchanged.
-pub fn take_told<'a>(
-    fit: bool,
-    times: &'a mut [u64; CAPACITY],
-    lengths: &'a mut [u8; CAPACITY],
-    bytes: &'a mut [u8; BYTES],
-    copies: &'a mut [u16; CAPACITY],
-    numbers: &'a mut [u64; NUMBERS],
-    received: &'a [u8],
-    time: u64,
-) -> u16
-    ensures { TakesTold fit
-        (arrays times.old lengths.old bytes.entry.now copies.old
-        numbers.old)
-        (record { bytes = received.now; time = time }) result
-        (arrays times.new lengths.new bytes.exit.now copies.new
-        numbers.new) }
-{
-    let summary = summary_in(numbers);
-    let done = merging::admit(fit, times, lengths, bytes, copies, summary, received, time);
-    let next = done.summary;
-    let answer = done.answer;
-    store(next, numbers);
-    answer_number(answer)
-}
-
-// The six totals. Refused: 11, and then they are unchanged.
-pub fn totals<'a>(
-    times: &'a [u64; CAPACITY],
-    lengths: &'a [u8; CAPACITY],
-    bytes: &'a [u8; BYTES],
-    copies: &'a [u16; CAPACITY],
-    numbers: &'a [u64; NUMBERS],
-    totals: &'a mut [u64; TOTALS],
-) -> u8
-    ensures { record { number = result; values = totals.new }
-        ≡ totals_call
-        (state_at (arrays times.now lengths.now bytes.now copies.now
-        numbers.now))
-        totals.old }
-{
-    if !is_acceptable(times, lengths, bytes, numbers) {
-        return base_refusal::number(Refusal::NotAccepted);
+impl<'a> Lent<'a> {
+    // The same arrays, to be read.
+    pub fn held(&self) -> Held
+        ensures { arrays_held result ≡ arrays_in self.now }
+    {
+        Held {
+            times: self.times,
+            lengths: self.lengths,
+            bytes: self.bytes,
+            copies: self.copies,
+            numbers: self.numbers,
+        }
     }
-    *totals = [
-        numbers[2], numbers[3], numbers[4], numbers[5], numbers[6], numbers[7],
-    ];
-    0
+
+    // Makes it a collector with no telegram open and nothing counted.
+    pub fn clear(&mut self)
+        ensures fresh { Fresh (arrays_in self.new) }
+        ensures same_loans { SameLoans self.old self.new }
+    {
+        *self.times = [0u64; CAPACITY];
+        *self.lengths = [0u8; CAPACITY];
+        *self.bytes = [0u8; BYTES];
+        *self.copies = [0u16; CAPACITY];
+        *self.numbers = [0u64; NUMBERS];
+    }
+
+    // Takes one reception: its bytes and the moment they were complete. The state is tested once.
+    pub fn take(&mut self, received: &[u8], time: u64) -> u16
+        ensures takes { Takes (arrays_in self.old) (record { bytes = received.now; time = time }) result
+            (arrays_in self.new) }
+        ensures same_loans { SameLoans self.old self.new }
+    {
+        let fit = self.held().is_acceptable();
+        self.take_told(fit, received, time)
+    }
+
+    // Takes one reception; the caller gives the result of the test of the state, so the test is not made again. If that result is wrong, the arrays
+    // become what `admission` says. With every refusal the entries are unchanged.
+    // Kept (step): `fit` is what a test said of the state. The answer depends on it, and it chooses no step.
+    pub fn take_told(&mut self, fit: bool, received: &[u8], time: u64) -> u16
+        ensures takes { TakesTold fit (arrays_in self.old) (record { bytes = received.now; time = time }) result
+            (arrays_in self.new) }
+        ensures same_loans { SameLoans self.old self.new }
+    {
+        let mut entries = collector_state::Lent {
+            times: &mut *self.times,
+            lens: &mut *self.lengths,
+            bytes: &mut *self.bytes,
+            copies: &mut *self.copies,
+            summary: summary_in(self.numbers),
+        };
+        let answer = entries.admit(fit, received, time);
+        store(entries.summary, self.numbers);
+        answer_number(answer)
+    }
 }
 
-// How often the telegram of entry `entry` was received again. Refused: 11, then 10; then `heard` is unchanged.
-pub fn copies_of<'a>(
-    times: &'a [u64; CAPACITY],
-    lengths: &'a [u8; CAPACITY],
-    bytes: &'a [u8; BYTES],
-    copies: &'a [u16; CAPACITY],
-    numbers: &'a [u64; NUMBERS],
-    entry: usize,
-    heard: &'a mut u64,
-) -> u8
-    ensures { record { number = result; copies = heard.new }
-        ≡ copies_call
-        (state_at (arrays times.now lengths.now bytes.now copies.now
-        numbers.now))
-        entry heard.old }
-{
-    if !is_acceptable(times, lengths, bytes, numbers) {
-        return base_refusal::number(Refusal::NotAccepted);
+impl<'a> Held<'a> {
+    // The six totals. Refused: 11, and then they are unchanged.
+    pub fn totals(self, totals: &mut [u64; TOTALS]) -> u8
+        ensures { record { number = result; values = totals.new }
+            ≡ totals_call (state_at (arrays_held self.entry)) totals.old }
+    {
+        if !self.is_acceptable() {
+            return base_refusal::number(Refusal::NotAccepted);
+        }
+        let n = self.numbers;
+        *totals = [n[2], n[3], n[4], n[5], n[6], n[7]];
+        0
     }
-    if numbers[0] as usize <= entry {
-        return base_refusal::number(Refusal::Argument);
-    }
-    *heard = base_numbers::u64_of_u16(copies[entry]);
-    0
-}
 
-// Whether the state in these arrays is acceptable.
-pub fn is_acceptable<'a>(
-    times: &'a [u64; CAPACITY],
-    lengths: &'a [u8; CAPACITY],
-    bytes: &'a [u8; BYTES],
-    numbers: &'a [u64; NUMBERS],
-) -> bool
-    ensures { (copies : List ℕ) → result ≡ acceptable
-        (state_at (arrays times.now lengths.now bytes.now copies
-        numbers.now)) }
-{
-    acceptable::is_acceptable(times, lengths, bytes, summary_in(numbers))
+    // How often the telegram of entry `entry` was received again. Refused: 11, then 10; then `heard` is unchanged.
+    pub fn copies_of(self, entry: usize, heard: &mut u64) -> u8
+        ensures { record { number = result; copies = heard.new }
+            ≡ copies_call (state_at (arrays_held self.entry)) entry heard.old }
+    {
+        if !self.is_acceptable() {
+            return base_refusal::number(Refusal::NotAccepted);
+        }
+        if self.numbers[0] as usize <= entry {
+            return base_refusal::number(Refusal::Argument);
+        }
+        *heard = u64::from(self.copies[entry]);
+        0
+    }
+
+    // Whether the state in these arrays is acceptable.
+    pub fn is_acceptable(self) -> bool
+        ensures { result ≡ acceptable (state_at (arrays_held self.entry)) }
+    {
+        acceptable::is_acceptable(
+            self.times,
+            self.lengths,
+            self.bytes,
+            summary_in(self.numbers),
+        )
+    }
 }
 
 // The summary in eight numbers. Its contract also says that there are eight: this is known for a slice, but not for a lent array.
@@ -176,7 +165,7 @@ fn read_numbers(numbers: &[u64]) -> Summary
     Summary {
         count: numbers[0] as usize,
         latest: numbers[1],
-        totals: totals,
+        totals,
     }
 }
 
@@ -221,9 +210,7 @@ pub fn number_of(answer: Answer) -> u8
     ensures { result ≡ shown_number (shown_of answer) }
 {
     match answer {
-        Answer::Kept => 0,
-        Answer::Copy => 0,
-        Answer::Loose => 0,
         Answer::Refused(why) => base_refusal::number(why),
+        _ => 0,
     }
 }

@@ -1,5 +1,5 @@
 -- The calls by what is tested: fields of another size, and of the right size; how long what is read is.
-use mathlib.Core.Path.{◌≡◌, sym, ◌∙◌}
+use mathlib.Core.Path.{◌≡◌, refl, sym, ◌∙◌}
 use mathlib.Core.List.{List, [], ◌∷◌}
 use Prim.Native.Nat.{ℕ, ◌<◌}
 use native.Mathlib.Omega.{arith}
@@ -7,7 +7,10 @@ use lib.Dec.{eqb}
 use lib.ListN.{length}
 use borrow.Author.Tests.{eq-eqb, ne_eqb}
 use Rattle.base_lists.proofs.Tests.{branch}
+use Rattle.std.specs.Prelude.{Option, Some, None, is_some, unwrap_or}
+use Rattle.radio_erp2_model.specs.declared.Extension.{Extension}
 use Rattle.radio_erp2_model.specs.declared.Telegram.{Telegram}
+use Rattle.radio_erp2_model.specs.Header.{hops_of, announced_of}
 use Rattle.radio_erp2_model.specs.Reading.{read_of, fields_of, check_of, length_byte}
 use Rattle.radio_erp2_model.specs.Building.{build_of}
 use Rattle.c_layout.specs.Frame.{wrong_size, flag_byte}
@@ -31,7 +34,7 @@ module _ (s old : List ℕ) (originator destination : ℕ) where
 
     pub read_done : number ≡ 0
         → reading number (fields_bytes (read_of s).telegram)
-        (read_of s).telegram.originator (read_of s).telegram.destination.id
+        (read_of s).telegram.originator (unwrap_or (read_of s).telegram.destination 0)
         ≡ read_call s old originator destination
     unfolding read_call
     read_done z = rw (eq-eqb (length old) fields_length h, sym is ∙ z, z)
@@ -57,11 +60,24 @@ read_len s h = branch (λ (t : Telegram). t.len < 256) (eqb (check_of s) 0) (λ 
 
 -- ---- fields, part by part
 
-pub head_are : (t : Telegram) (a b c d : ℕ) → a ≡ flag_byte t.header.extended
-    → b ≡ flag_byte t.extension.present → c ≡ flag_byte t.subtype.present
-    → d ≡ flag_byte t.destination.present
-    → t.short ∷ t.header.control ∷ a ∷ t.header.kind ∷ b ∷ t.extension.hops
-    ∷ t.extension.announced ∷ c ∷ t.subtype.value ∷ d ∷ t.len ∷ []
+-- an extended header with zeros where there is none
+abbrev or_zeros : Option Extension → Extension
+or_zeros o = unwrap_or o (record { hops = 0; announced = 0 })
+
+extension-hops : (o : Option Extension) → (or_zeros o).hops ≡ hops_of o
+extension-hops (Some e) = refl
+extension-hops None = refl
+
+extension-announced : (o : Option Extension) → (or_zeros o).announced ≡ announced_of o
+extension-announced (Some e) = refl
+extension-announced None = refl
+
+pub head_are : (t : Telegram) (e : Extension) (a b c d v : ℕ) → e ≡ or_zeros t.extension → v ≡ unwrap_or t.subtype 0
+    → a ≡ flag_byte t.header.extended → b ≡ flag_byte (is_some t.extension) → c ≡ flag_byte (is_some t.subtype)
+    → d ≡ flag_byte (is_some t.destination)
+    → t.short ∷ t.header.control ∷ a ∷ t.header.kind ∷ b ∷ e.hops
+    ∷ e.announced ∷ c ∷ v ∷ d ∷ t.len ∷ []
     ≡ head_bytes t
 unfolding head_bytes
-head_are t a b c d ea eb ec ed = rw (ea, eb, ec, ed)
+head_are t e a b c d v ee ev ea eb ec ed =
+    rw (ee, ev, ea, eb, ec, ed, extension-hops t.extension, extension-announced t.extension)

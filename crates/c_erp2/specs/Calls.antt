@@ -1,5 +1,5 @@
 -- What the calls answer, and what they write into lent memory.
-use Rattle.std.specs.Prelude.{ℕ, cond, not, List, eqb, length}
+use Rattle.std.specs.Prelude.{ℕ, cond, not, List, eqb, length, unwrap_or}
 use Rattle.radio_telegram.specs.Output.{Result}
 use Rattle.radio_erp2_model.specs.Reading.{read_of}
 use Rattle.radio_erp2_model.specs.Building.{build_of}
@@ -29,7 +29,7 @@ read_call s old originator destination =
     (reading (read_of s).number
     (if_done (read_of s).number (fields_bytes (read_of s).telegram) old)
     (if_done (read_of s).number (read_of s).telegram.originator originator)
-    (if_done (read_of s).number (read_of s).telegram.destination.id destination))
+    (if_done (read_of s).number (unwrap_or (read_of s).telegram.destination 0) destination))
 
 -- builds an ERP2 telegram from its fields and its two IDs
 unfoldable pub build_call : List ℕ → ℕ → ℕ → ℕ → List ℕ → Result

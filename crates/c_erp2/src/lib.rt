@@ -1,4 +1,5 @@
 // ERP2 telegrams on plain numbers and bytes, as other languages call them.
+// Kept (code): the C interface gets numbers, and a flag beside a value: mooringeye_erp2_read and mooringeye_erp2_build.
 #![tactic(auto)]
 
 ghost use Rattle.std.specs.Prelude.{◌≡◌, ◌<◌, length};
@@ -6,7 +7,7 @@ ghost use Rattle.c_erp2.specs.Fields.{fields_head_length, fields_length, head_by
 ghost use Rattle.c_erp2.specs.Calls.{read_call, build_call};
 
 use c_layout::WRONG_SIZE;
-use radio_erp2_model::{Destination, Extension, Header, MAX_DATA, MAX_OPTIONAL, Subtype, Telegram};
+use radio_erp2_model::{Extension, Header, MAX_DATA, Telegram};
 
 // The length of a telegram's fields without its IDs: eleven bytes, data and optional data.
 pub const FIELDS_LENGTH: usize = 276;
@@ -28,17 +29,15 @@ pub fn read(bytes: &[u8], fields: &mut [u8], originator: &mut u64, destination: 
     if fields.len() != FIELDS_LENGTH {
         return WRONG_SIZE;
     }
-    let reading = radio_erp2::read(bytes);
-    let checked = reading.checked;
-    let number = c_layout::checked_number(checked);
-    if number != 0 {
-        return number;
+    match radio_erp2::read(bytes) {
+        Err(why) => base_refusal::number(why),
+        Ok(t) => {
+            put_fields(fields, t);
+            *originator = t.originator;
+            *destination = t.destination.unwrap_or(0);
+            0
+        }
     }
-    let t = reading.telegram;
-    put_fields(fields, t);
-    *originator = t.originator;
-    *destination = t.destination.id;
-    number
 }
 
 // Builds the telegram of these fields and IDs into `out`. Refused: 255, then 10, 14, 15, 6.
@@ -65,40 +64,39 @@ fn put_fields(out: &mut [u8], t: Telegram)
     requires { (length out.old ≡ fields_length) × (t.len < 256) }
     ensures { out.new ≡ fields_bytes t }
 {
-    let payload = t.payload;
-    let optional = t.optional;
     put_head(&mut out[0..HEAD_LENGTH], t);
-    block_layout::put_bytes(&mut out[HEAD_LENGTH..OPTIONAL], &payload);
-    block_layout::put_bytes(&mut out[OPTIONAL..FIELDS_LENGTH], &optional);
+    block_layout::put_bytes(&mut out[HEAD_LENGTH..OPTIONAL], &t.payload);
+    block_layout::put_bytes(&mut out[OPTIONAL..FIELDS_LENGTH], &t.optional);
 }
 
 fn put_head(out: &mut [u8], t: Telegram)
     requires { (length out.old ≡ fields_head_length) × (t.len < 256) }
     ensures { out.new ≡ head_bytes t }
 {
-    let extended = c_layout::flag_byte(t.header.extended);
-    let extension = c_layout::flag_byte(t.extension.present);
-    let subtype = c_layout::flag_byte(t.subtype.present);
-    let destination = c_layout::flag_byte(t.destination.present);
-    out[0] = t.short;
-    out[1] = t.header.control;
-    out[2] = extended;
-    out[3] = t.header.kind;
-    out[4] = extension;
-    out[5] = t.extension.hops;
-    out[6] = t.extension.announced;
-    out[7] = subtype;
-    out[8] = t.subtype.value;
-    out[9] = destination;
-    out[10] = t.len as u8;
+    let e = t.extension.unwrap_or(Extension {
+        hops: 0,
+        announced: 0,
+    });
+    out.copy_from_slice(&[
+        t.short,
+        t.header.control,
+        c_layout::flag_byte(t.header.extended),
+        t.header.kind,
+        c_layout::flag_byte(t.extension.is_some()),
+        e.hops,
+        e.announced,
+        c_layout::flag_byte(t.subtype.is_some()),
+        t.subtype.unwrap_or(0),
+        c_layout::flag_byte(t.destination.is_some()),
+        // Kept (conversion): proved to fit; `try_from(..).unwrap()` is no plainer.
+        t.len as u8,
+    ]);
 }
 
 fn telegram_in(fields: &[u8], originator: u64, destination: u32) -> Telegram
     requires { length fields.now ≡ fields_length }
     ensures { result ≡ telegram_in fields.now originator destination }
 {
-    let payload = payload_in(&fields[HEAD_LENGTH..OPTIONAL]);
-    let optional = optional_in(&fields[OPTIONAL..FIELDS_LENGTH]);
     Telegram {
         short: fields[0],
         header: Header {
@@ -106,40 +104,15 @@ fn telegram_in(fields: &[u8], originator: u64, destination: u32) -> Telegram
             extended: fields[2] != 0,
             kind: fields[3],
         },
-        extension: Extension {
-            present: fields[4] != 0,
+        extension: (fields[4] != 0).then_some(Extension {
             hops: fields[5],
             announced: fields[6],
-        },
-        subtype: Subtype {
-            present: fields[7] != 0,
-            value: fields[8],
-        },
-        originator: originator,
-        destination: Destination {
-            present: fields[9] != 0,
-            id: destination,
-        },
-        payload: payload,
-        len: fields[10] as usize,
-        optional: optional,
+        }),
+        subtype: (fields[7] != 0).then_some(fields[8]),
+        originator,
+        destination: (fields[9] != 0).then_some(destination),
+        payload: fields[HEAD_LENGTH..OPTIONAL].try_into().unwrap(),
+        len: usize::from(fields[10]),
+        optional: fields[OPTIONAL..FIELDS_LENGTH].try_into().unwrap(),
     }
-}
-
-fn payload_in(part: &[u8]) -> [u8; MAX_DATA]
-    requires { length part.now ≡ 250 }
-    ensures { result ≡ part.now }
-{
-    let mut payload = [0u8; MAX_DATA];
-    base_bytes::copy(part, &mut payload);
-    payload
-}
-
-fn optional_in(part: &[u8]) -> [u8; MAX_OPTIONAL]
-    requires { length part.now ≡ 15 }
-    ensures { result ≡ part.now }
-{
-    let mut optional = [0u8; MAX_OPTIONAL];
-    base_bytes::copy(part, &mut optional);
-    optional
 }

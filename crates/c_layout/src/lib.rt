@@ -1,17 +1,15 @@
 // What the calls for other languages have in common: the number for a wrong size, and the bytes of a telegram with its length.
+// Kept (code): the C interface: the calls answer by numbers.
 #![tactic(auto)]
 
 ghost use Rattle.std.specs.Prelude.{◌≡◌, List, ℕ};
-ghost use Rattle.base_refusal.specs.Number.{number_of};
-ghost use Rattle.radio_erp1.specs.Subtelegram.{checked_number};
+ghost use Rattle.base_refusal.specs.Number.{number_of, outcome_number};
 ghost use Rattle.radio_telegram.specs.Output.{result_of};
 ghost use Rattle.base_buffers.specs.Buffer.{overwritten};
 ghost use Rattle.c_layout.specs.Frame.{frame_length, frame_bytes, flag_byte};
 ghost use Rattle.c_layout.specs.Lent.{if_mismatch, settled};
 
 use base_refusal::Refusal;
-use radio_erp1::Checked;
-use radio_telegram::frame::Built;
 
 // The answer if a lent slice has the wrong size. Only this interface has the number; the papers do not use it.
 pub const WRONG_SIZE: u8 = 255;
@@ -35,20 +33,15 @@ pub fn put_frame(out: &mut [u8], len: u8, bytes: &[u8])
 pub fn flag_byte(flag: bool) -> u8
     ensures { result ≡ flag_byte flag }
 {
-    if flag {
-        return 1;
-    }
-    0
+    u8::from(flag)
 }
 
 // The number of a check's answer.
-pub fn checked_number(checked: Checked) -> u8
-    ensures { result ≡ checked_number checked }
+// Kept (twin): it is `base_refusal::outcome_number` under another name, and the must-fail edit `valid_answers_1` is of this function.
+pub fn checked_number(checked: Result<(), Refusal>) -> u8
+    ensures { result ≡ outcome_number checked }
 {
-    match checked {
-        Checked::Valid => 0,
-        Checked::Refused(why) => base_refusal::number(why),
-    }
+    base_refusal::outcome_number(checked)
 }
 
 // The number of a refusal, and the position if the number is 12; with any other number the position is unchanged.
@@ -65,15 +58,15 @@ pub fn refuse(why: Refusal, at: usize, position: &mut usize) -> u8
 }
 
 // The number of what was written, and its length; with a refusal the length is unchanged.
-pub fn settle(built: Built, length: &mut usize) -> u8
+pub fn settle(built: Result<usize, Refusal>, length: &mut usize) -> u8
     ensures { (output : List ℕ) → record { number = result; len = length.new; output = output }
         ≡ settled (result_of built output) length.old }
 {
     match built {
-        Built::Done(n) => {
+        Ok(n) => {
             *length = n;
             0
         }
-        Built::Refused(why) => base_refusal::number(why),
+        Err(why) => base_refusal::number(why),
     }
 }

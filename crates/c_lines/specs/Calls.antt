@@ -1,6 +1,6 @@
 -- What the calls answer that take lines, read the first line, read one line or skip lines, and what they write into
 -- lent memory.
-use Rattle.std.specs.Prelude.{ℕ, ◌+◌, ◌*◌, ◌≤◌, ◌<◌, ◌≡◌, Bool, true, cond, not, List, [], ◌∷◌, eqb, ltb, length, get_or, take, drop}
+use Rattle.std.specs.Prelude.{ℕ, ◌+◌, ◌*◌, ◌≤◌, ◌<◌, ◌≡◌, Bool, true, cond, not, List, [], ◌∷◌, eqb, ltb, length, get_or, take, drop, Option, Some, None}
 use Rattle.base_bytes.specs.Bytes.{index_of}
 use Rattle.base_refusal.specs.Number.{number_of}
 use Rattle.base_refusal.specs.declared.Refusal.TheVariants.{NotAccepted, Argument}
@@ -8,7 +8,8 @@ use Rattle.collector_model.specs.Acceptable.{acceptable}
 use Rattle.c_layout.specs.Frame.{wrong_size}
 use Rattle.c_collector.specs.State.{Arrays, columns_at, state_at}
 use Rattle.text_lines.specs.Ascii.{newline}
-use Rattle.text_lines.specs.declared.Setting.{Setting}
+use Rattle.text_lines.specs.declared.Heard.{Heard}
+use Rattle.text_lines.specs.declared.Line.{Line}
 use Rattle.text_lines.specs.Reading.{setting_of, line_limit, front_of, line_of, bytes_in}
 use Rattle.text_program.specs.Chunks.{at_line_start, feed, feed_text}
 use Rattle.text_program.specs.Collect.{over}
@@ -44,9 +45,9 @@ pub record Lines (s : Arrays) (setting : ℕ) (input : List ℕ) (most : ℕ) (o
 -- ---- the first line
 
 -- the level, or 3 for a line that says no level
-abbrev pub level_number : Setting → ℕ
-level_number (Setting.Level n) = n
-level_number Setting.Bad = 3
+abbrev pub level_number : Option ℕ → ℕ
+level_number (Some n) = n
+level_number None = 3
 
 -- the level of the line up to the first newline, or 4 if there is no newline
 abbrev pub first_number : List ℕ → ℕ
@@ -62,16 +63,32 @@ first_used input =
 
 -- ---- a single line
 
--- 0 for a reception, 3 for any other line, 4 if no newline ends it
-abbrev pub line_number : Bool → ℕ → ℕ
-line_number ok used = cond ok 0 (cond (eqb used 0) 4 3)
+-- 0 for a reception, 3 for any other line
+abbrev pub heard_number : Option Heard → ℕ
+heard_number (Some h) = 0
+heard_number None = 3
+
+-- the same, or 4 if no newline ends the line
+abbrev pub line_number : Option Line → ℕ
+line_number (Some l) = heard_number l.heard
+line_number None = 4
+
+-- the time and the length of a reception, else zeros
+abbrev pub heard_values : Option Heard → ℕ → List ℕ
+heard_values (Some h) used = h.time ∷ h.len ∷ used ∷ []
+heard_values None used = 0 ∷ 0 ∷ used ∷ []
+
+-- the same with the characters of the line, or zeros if no newline ends it
+abbrev pub line_values : Option Line → List ℕ
+line_values (Some l) = heard_values l.heard l.used
+line_values None = 0 ∷ 0 ∷ 0 ∷ []
 
 -- what the line at the start of a text says (`line_of`). Its bytes are filled with zeros. `done` has the time, the
 -- length, and how many characters the line has with its newline.
 pub record ReadLine (input : List ℕ) (number : ℕ) (bytes' done' : List ℕ) : Type 0 where
-  pub answer : number ≡ line_number (line_of (front_of input)).ok (line_of (front_of input)).used
+  pub answer : number ≡ line_number (line_of (front_of input))
   pub written : bytes' ≡ bytes_in (front_of input)
-  pub told : done' ≡ (line_of (front_of input)).time ∷ (line_of (front_of input)).len ∷ (line_of (front_of input)).used ∷ []
+  pub told : done' ≡ line_values (line_of (front_of input))
 
 -- ---- lines that are skipped
 

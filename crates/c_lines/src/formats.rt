@@ -1,10 +1,11 @@
 // Lines of text for a collector in five lent arrays, with their rows in a format and what they close, as other languages call it.
 ghost use Rattle.std.specs.Prelude.{◌≡◌};
-ghost use Rattle.c_collector.specs.State.{arrays};
+ghost use Rattle.c_collector.specs.State.{arrays_in, SameLoans};
 ghost use Rattle.c_lines.specs.Formats.{format_of, LinesAs};
 
+// Kept (code): the C interface: a call answers by a number, and is given the format by one.
 use base_refusal::Refusal;
-use c_collector::{BYTES, CAPACITY, NUMBERS};
+use c_collector::Lent;
 use c_layout::WRONG_SIZE;
 use radio_telegram::repeater::MAX_SETTING;
 use text_collect::formats;
@@ -19,11 +20,7 @@ pub const DONE: usize = 5;
 // Takes whole lines from the start of the input, at most `most`, as `lines` does, and writes their rows in a format. If `closed` is not empty, also
 // writes what they close, 32 bytes each. Refused: 11, then 255, then 10 for the setting or the format; then everything is unchanged.
 pub fn lines_as(
-    times: &mut [u64; CAPACITY],
-    lengths: &mut [u8; CAPACITY],
-    bytes: &mut [u8; BYTES],
-    copies: &mut [u16; CAPACITY],
-    numbers: &mut [u64; NUMBERS],
+    state: &mut Lent,
     setting: u8,
     format: u8,
     input: &[u8],
@@ -34,16 +31,11 @@ pub fn lines_as(
     closed: &mut [u8],
     done: &mut [u64; DONE],
 ) -> u8
-    ensures { LinesAs
-        (arrays times.old lengths.old bytes.old copies.old
-        numbers.old)
-        setting format input.now most out.old moments.old rows.old
-        closed.old done.old result
-        (arrays times.new lengths.new bytes.new copies.new
-        numbers.new)
-        out.new moments.new rows.new closed.new done.new }
+    ensures lines_as { LinesAs (arrays_in state.old) setting format input.now most out.old moments.old rows.old
+        closed.old done.old result (arrays_in state.new) out.new moments.new rows.new closed.new done.new }
+    ensures same_loans { SameLoans state.old state.new }
 {
-    if !c_collector::is_acceptable(times, lengths, bytes, numbers) {
+    if !state.held().is_acceptable() {
         return base_refusal::number(Refusal::NotAccepted);
     }
     if !crate::is_sized(moments.len(), rows.len()) {
@@ -52,16 +44,19 @@ pub fn lines_as(
     if (MAX_SETTING < setting) | (MAX_FORMAT < format) {
         return base_refusal::number(Refusal::Argument);
     }
-    let summary = crate::summary_of(copies, numbers);
+    let summary = crate::summary_of(state.copies, state.numbers);
+    let mut entries = collector_state::Lent {
+        times: &mut *state.times,
+        lens: &mut *state.lengths,
+        bytes: &mut *state.bytes,
+        copies: &mut *state.copies,
+        summary,
+    };
     let taken = formats::take_rows_as(
         true,
         setting,
         format_of(format),
-        times,
-        lengths,
-        bytes,
-        copies,
-        summary,
+        &mut entries,
         input,
         most,
         out,
@@ -69,8 +64,7 @@ pub fn lines_as(
         rows,
         closed,
     );
-    let next = taken.summary;
-    c_collector::store(next, numbers);
+    c_collector::store(entries.summary, state.numbers);
     *done = [
         taken.used as u64,
         taken.written as u64,
@@ -84,11 +78,9 @@ pub fn lines_as(
 fn format_of(n: u8) -> Format
     ensures { result ≡ format_of n }
 {
-    if n == 0 {
-        return Format::Text;
+    match n {
+        0 => Format::Text,
+        1 => Format::Csv,
+        _ => Format::Json,
     }
-    if n == 1 {
-        return Format::Csv;
-    }
-    Format::Json
 }

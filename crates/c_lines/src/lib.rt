@@ -5,15 +5,15 @@ pub mod formats;
 
 ghost use Rattle.std.specs.Prelude.{◌≡◌, List, [], ◌∷◌, ℕ, length};
 ghost use Rattle.collector_model.specs.Exact.{Fits};
-ghost use Rattle.c_collector.specs.State.{arrays, summary_in, state_at};
-ghost use Rattle.c_lines.specs.Calls.{are_rows_sized, Lines, level_number, first_number, first_used, line_number, ReadLine, Skipped};
+ghost use Rattle.c_collector.specs.State.{arrays, arrays_in, SameLoans, summary_in, state_at};
+ghost use Rattle.c_lines.specs.Calls.{are_rows_sized, Lines, first_number, first_used, ReadLine, Skipped};
 
+// Kept (code): the C interface: its calls answer by numbers.
 use base_refusal::Refusal;
-use c_collector::{BYTES, CAPACITY, NUMBERS};
+use c_collector::{Lent, NUMBERS};
 use c_layout::WRONG_SIZE;
 use collector_state::Summary;
 use radio_telegram::repeater::MAX_SETTING;
-use text_lines::Setting;
 
 // A row without its time: a byte that is not 0 for LOOSE, its length, and 21 bytes.
 const ROW_LENGTH: usize = 23;
@@ -36,14 +36,11 @@ pub const READ: usize = 3;
 
 pub const SKIPPED: usize = 2;
 
+// Kept (twin): the C interface has `lines` and `lines_as` as two calls, each with outputs of its own and in a library of its own.
 // Takes whole lines from the start of the input, at most `most`, with one test of the state. Refused: 11, then 255, then 10; then everything is
 // unchanged.
 pub fn lines(
-    times: &mut [u64; CAPACITY],
-    lengths: &mut [u8; CAPACITY],
-    bytes: &mut [u8; BYTES],
-    copies: &mut [u16; CAPACITY],
-    numbers: &mut [u64; NUMBERS],
+    state: &mut Lent,
     setting: u8,
     input: &[u8],
     most: usize,
@@ -52,16 +49,11 @@ pub fn lines(
     rows: &mut [u8],
     done: &mut [u64; DONE],
 ) -> u8
-    ensures { Lines
-        (arrays times.old lengths.old bytes.old copies.old
-        numbers.old)
-        setting input.now most out.old moments.old rows.old
-        done.old result
-        (arrays times.new lengths.new bytes.new copies.new
-        numbers.new)
-        out.new moments.new rows.new done.new }
+    ensures lines { Lines (arrays_in state.old) setting input.now most out.old moments.old rows.old done.old
+        result (arrays_in state.new) out.new moments.new rows.new done.new }
+    ensures same_loans { SameLoans state.old state.new }
 {
-    if !c_collector::is_acceptable(times, lengths, bytes, numbers) {
+    if !state.held().is_acceptable() {
         return base_refusal::number(Refusal::NotAccepted);
     }
     if !is_sized(moments.len(), rows.len()) {
@@ -70,12 +62,25 @@ pub fn lines(
     if MAX_SETTING < setting {
         return base_refusal::number(Refusal::Argument);
     }
-    let summary = summary_of(copies, numbers);
+    let summary = summary_of(state.copies, state.numbers);
+    let mut entries = collector_state::Lent {
+        times: &mut *state.times,
+        lens: &mut *state.lengths,
+        bytes: &mut *state.bytes,
+        copies: &mut *state.copies,
+        summary,
+    };
     let taken = text_collect::take_rows(
-        true, setting, times, lengths, bytes, copies, summary, input, most, out, moments, rows,
+        true,
+        setting,
+        &mut entries,
+        input,
+        most,
+        out,
+        moments,
+        rows,
     );
-    let next = taken.summary;
-    c_collector::store(next, numbers);
+    c_collector::store(entries.summary, state.numbers);
     *done = [
         taken.used as u64,
         taken.written as u64,
@@ -89,10 +94,7 @@ pub fn lines(
 fn is_sized(moments: usize, rows: usize) -> bool
     ensures { result ≡ are_rows_sized moments rows }
 {
-    if rows / ROW_LENGTH != moments {
-        return false;
-    }
-    rows % ROW_LENGTH == 0
+    rows / ROW_LENGTH == moments && rows % ROW_LENGTH == 0
 }
 
 // The summary of a state. Its contract also says that the numbers have the bits of their types: this is known for a slice, but not for a lent array.
@@ -115,16 +117,7 @@ pub fn first_line(input: &[u8], done: &mut [u64; FIRST]) -> u8
         return NO_LINE;
     }
     *done = [n as u64 + 1];
-    level_number(text_lines::parse_setting(&input[0..n]))
-}
-
-fn level_number(setting: Setting) -> u8
-    ensures { result ≡ level_number setting }
-{
-    match setting {
-        Setting::Level(n) => n,
-        Setting::Bad => BAD_LINE,
-    }
+    text_lines::parse_setting(&input[0..n]).unwrap_or(BAD_LINE)
 }
 
 // Reads the line at the start of a text: 0 for a reception, whose bytes are at the front of `bytes`, filled with zeros; 3 for any other line, 4 if no
@@ -132,21 +125,16 @@ fn level_number(setting: Setting) -> u8
 pub fn read_line(input: &[u8], bytes: &mut [u8; MAX_BYTES], done: &mut [u64; READ]) -> u8
     ensures { ReadLine input.now result bytes.new done.new }
 {
-    let l = text_lines::parse(input, bytes);
-    *done = [l.time, l.len as u64, l.used as u64];
-    line_number(l.ok, l.used)
-}
-
-fn line_number(ok: bool, used: usize) -> u8
-    ensures { result ≡ line_number ok used }
-{
-    if ok {
-        return 0;
-    }
-    if used == 0 {
+    let Some(l) = text_lines::parse(input, bytes) else {
+        *done = [0; READ];
         return NO_LINE;
-    }
-    BAD_LINE
+    };
+    let Some(h) = l.heard else {
+        *done = [0, 0, l.used as u64];
+        return BAD_LINE;
+    };
+    *done = [h.time, h.len as u64, l.used as u64];
+    0
 }
 
 // Skips whole lines at the start of a text, at most `most`. `done` gets how many characters they have, and how many lines there are.

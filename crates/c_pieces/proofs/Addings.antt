@@ -1,17 +1,15 @@
 -- An archive that is added in pieces, in lent arrays.
 --     feed-report     a piece leaves the report as it is
---     feed-kept, end_kept     beside a refusal all is as it was
+--     feed-kept       beside a refusal all is as it was
 use Prim.Native.Nat.{ℕ}
 use mathlib.Core.Path.{◌≡◌, refl}
 use mathlib.Core.Bool.{Bool, true, false, cond, not}
 use mathlib.Core.List.{List}
 use Rattle.base_refusal.specs.Number.{number_of}
 use Rattle.base_refusal.specs.declared.Refusal.TheVariants.{NotAccepted, Size}
-use lib.Dec.{leb}
 use Rattle.base_lists.proofs.Tests.{by_test}
-use Rattle.archive_model.specs.Buffer.{Found, At, None, blocks_in, stage_found}
-use Rattle.archive_report_model.specs.Report.{max_archives}
-use Rattle.archive_report_model.specs.Pieces.{Adding, adding, add_blocks, tally_addition, closing, is_adding, is_piece, piece_answer, add_piece_of, ended_of}
+use Rattle.archive_model.specs.Buffer.{blocks_in}
+use Rattle.archive_report_model.specs.Pieces.{Adding, adding, add_blocks, is_adding, is_piece, piece_answer, add_piece_of}
 
 pub feed-report : (a : Adding) (piece : List ℕ) → (add_piece_of a piece).next.report ≡ a.report
 unfolding add_piece_of
@@ -35,20 +33,3 @@ feed-kept a piece n =
     (λ g. by_test {X = (add_piece_of a piece).next ≡ a} (is_piece a.tally.scan piece)
     (λ p. absurd (n (rw (g, p)))) (λ p. rw (g, p)))
     (λ g. rw g)
-
-pub end_kept : (a : Adding) → ((ended_of a).number ≡ 0 → ⊥) → (ended_of a).next ≡ a.report
-unfolding ended_of closing
-end_kept a n =
-    by_test {X = (ended_of a).next ≡ a.report} (is_adding a)
-    (λ g. rw g (go (stage_found a.tally.scan.stage) (λ z. n (rw g z)))) (λ g. rw g)
-  where
-    go : (f : Found) → ((tally_addition a.report a.tally f).number ≡ 0 → ⊥)
-        → (tally_addition a.report a.tally f).next ≡ a.report
-    go (At k) n = refl
-    go None n =
-        by_test {X = (tally_addition a.report a.tally None).next ≡ a.report}
-        (leb max_archives a.report.archives)
-        (λ m. rw m)
-        (λ m.
-        by_test {X = (tally_addition a.report a.tally None).next ≡ a.report}
-        a.tally.over (λ o. rw (m, o)) (λ o. absurd (n (rw (m, o)))))

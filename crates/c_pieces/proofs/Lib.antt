@@ -1,4 +1,3 @@
 pub mod Scans
 pub mod Addings
 pub mod Pieces
-pub mod Packers

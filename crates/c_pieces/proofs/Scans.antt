@@ -1,8 +1,7 @@
 -- A scan in four numbers.
---     stage-filling, stage-short, stage-ended, stage-wrong     the cases of `stage_at`
+--     stage-short, stage_wrong     cases of `stage_at`
 --     end-not, end-wrong, end-done                             those of `scan_end`
 --     stage-back                                               a stage is read back
---     shown-kept, shown-taken                                  what a call leaves in the numbers, by its answer
 use Prim.Native.Nat.{ℕ, zero, suc, ◌≤◌, ◌<◌}
 use native.Mathlib.Omega.{arith}
 use mathlib.Core.Path.{◌≡◌, refl, sym, ap, ◌∙◌}
@@ -18,17 +17,9 @@ use Rattle.archive_file.specs.Archive.{open_found}
 use Rattle.c_pieces.specs.Scan.{stage_at, stage_number, stage_position, scan_at, scan_numbers, scan_shown, scan_end}
 
 module _ (s p : ℕ) where
-  pub stage_filling : s ≡ 0 → Filling ≡ stage_at s p
-  unfolding stage_at
-  stage_filling e = rw e
-
   pub stage-short : s ≡ 1 → Short ≡ stage_at s p
   unfolding stage_at
   stage-short e = rw e
-
-  pub stage-ended : s ≡ 2 → Ended ≡ stage_at s p
-  unfolding stage_at
-  stage-ended e = rw e
 
   pub stage_wrong : (s ≡ 0 → ⊥) → (s ≡ 1 → ⊥) → (s ≡ 2 → ⊥) → Wrong p ≡ stage_at s p
   unfolding stage_at
@@ -72,12 +63,3 @@ stage-back Filling = refl
 stage-back Short = refl
 stage-back Ended = refl
 stage-back (Wrong k) = refl
-
--- the answer n to a piece, as a fed scan says it
-module _ (numbers : List ℕ) (f : Feeding) (n : ℕ) (is : n ≡ f.number) where
-  pub shown-kept : (n ≡ 0 → ⊥) → (record { number = n; numbers = numbers }) ≡ scan_shown numbers f
-  shown-kept other =
-      rw (ne_eqb f.number 0 (λ z. other (is ∙ z))) (ap (λ (x : ℕ). record { number = x; numbers = numbers }) is)
-
-  pub shown-taken : n ≡ 0 → (record { number = n; numbers = scan_numbers f.next }) ≡ scan_shown numbers f
-  shown-taken z = rw (z, sym is ∙ z)

@@ -1,5 +1,6 @@
 // An archive that is added to a report in pieces. The report is unchanged until the end.
-ghost use Rattle.std.specs.Prelude.{◌≡◌, cond, not, eqb};
+// Kept (code): the C interface: the calls answer by numbers.
+ghost use Rattle.std.specs.Prelude.{◌≡◌};
 ghost use Rattle.archive_report_model.specs.Report as model;
 ghost use Rattle.archive_report_model.specs.Pieces as pieces;
 ghost use Rattle.archive_report.specs.Report.{adding_of};
@@ -44,14 +45,13 @@ pub fn feed(
         result adding.new tally.new }
 {
     let a = adding_in(numbers, lines, adding, tally);
-    let fed = a.feed(piece);
-    let answer = fed.answer;
-    let number = base_refusal::outcome_number(answer);
-    if number != 0 {
-        return number;
+    match a.feed(piece) {
+        Ok(next) => {
+            store(next, adding, tally);
+            0
+        }
+        Err(why) => base_refusal::number(why),
     }
-    store(fed.next, adding, tally);
-    number
 }
 
 // Returns what adding all pieces as one archive answers. Refused: 11, 12 with the position, 10, 17; then every number of the report is unchanged.
@@ -69,14 +69,7 @@ pub fn end(
         position.new numbers.new lines.new }
 {
     let a = adding_in(numbers, lines, adding, tally);
-    let added = a.end();
-    let answer = added.answer;
-    let number = c_report::settle(answer, position);
-    if number != 0 {
-        return number;
-    }
-    c_report::store(added.next, numbers, lines);
-    number
+    c_report::settle(a.end(), numbers, lines, position)
 }
 
 // The archive that is being added, from four arrays.
@@ -107,26 +100,16 @@ fn store(a: Adding, adding: &mut [u64; NUMBERS], tally: &mut [u64; c_report::LIN
         × (adding.new ≡ tally_numbers (adding_of a).tally) × (tally.new ≡ a.lines) }
 {
     let s = a.scan;
-    let stage = s.stage;
     *adding = [
         s.blocks as u64,
         s.rows as u64,
-        scan::stage_number(stage),
-        scan::stage_position(stage),
+        scan::stage_number(s.stage),
+        scan::stage_position(s.stage),
         a.count as u64,
         a.kept,
         a.loose,
-        bit(a.over),
+        u64::from(a.over),
     ];
-    let all = a.lines;
-    *tally = all;
-}
-
-fn bit(b: bool) -> u64
-    ensures { (not (eqb result 0) ≡ b) × (result ≡ cond b 1 0) }
-{
-    if b {
-        return 1;
-    }
-    0
+    let lines = a.lines;
+    *tally = lines;
 }

@@ -1,4 +1,5 @@
 // Packs a damaged archive again, or removes the rows of some transmitters, in pieces.
+// Kept (code): the C interface: the calls answer by numbers.
 ghost use Rattle.std.specs.Prelude.{◌≡◌, get_or};
 ghost use Rattle.c_pieces.specs.Packer.{pack_call, pack_end};
 
@@ -29,7 +30,7 @@ pub fn feed(
         ≡ pack_call numbers.old waiting.old piece.now identities.now
         out.old positions.old dropped.old }
 {
-    let done = archive_repack::pack(
+    let packed = archive_repack::pack(
         waiting,
         numbers[0] as usize,
         numbers[1] as usize,
@@ -38,14 +39,14 @@ pub fn feed(
         out,
         positions,
     );
-    let answer = done.answer;
-    *numbers = [done.used as u64, done.next as u64];
-    let taken = base_refusal::outcome_number(answer);
-    if taken != 0 {
-        return taken;
+    match packed {
+        Ok(done) => {
+            *numbers = [done.used as u64, done.next as u64];
+            *dropped = done.dropped;
+            0
+        }
+        Err(why) => base_refusal::number(why),
     }
-    *dropped = done.dropped;
-    taken
 }
 
 // Writes the last block, if rows wait, and returns its length. Refused: 11, 6.
@@ -58,12 +59,11 @@ pub fn end(
     ensures { record { number = result; length = length.new; output = out.new }
         ≡ pack_end numbers.now waiting.now out.old length.old }
 {
-    let done = archive_repack::finish(waiting, numbers[0] as usize, numbers[1] as usize, out);
-    let answer = done.answer;
-    let number = base_refusal::outcome_number(answer);
-    if number != 0 {
-        return number;
+    match archive_repack::finish(waiting, numbers[0] as usize, numbers[1] as usize, out) {
+        Ok(written) => {
+            *length = written;
+            0
+        }
+        Err(why) => base_refusal::number(why),
     }
-    *length = done.len;
-    number
 }

@@ -1,4 +1,5 @@
 // Verifies an archive in pieces.
+// Kept (code): the C interface: the calls answer by numbers.
 ghost use Rattle.std.specs.Prelude.{◌≡◌};
 ghost use Rattle.archive_file.specs.Archive.{stage_of, scan_of};
 ghost use Rattle.c_archive.specs.Calls.{open_call};
@@ -16,21 +17,18 @@ pub fn feed(numbers: &mut [u64; NUMBERS], piece: &[u8]) -> u8
         ≡ scan_call numbers.old piece.now }
 {
     let s = scan_of(numbers[0], numbers[1], numbers[2], numbers[3]);
-    let fed = s.feed(piece);
-    let answer = fed.answer;
-    let number = base_refusal::outcome_number(answer);
-    if number != 0 {
-        return number;
+    match s.feed(piece) {
+        Ok(next) => {
+            *numbers = [
+                next.blocks as u64,
+                next.rows as u64,
+                stage_number(next.stage),
+                stage_position(next.stage),
+            ];
+            0
+        }
+        Err(why) => base_refusal::number(why),
     }
-    let next = fed.next;
-    let stage = next.stage;
-    *numbers = [
-        next.blocks as u64,
-        next.rows as u64,
-        stage_number(stage),
-        stage_position(stage),
-    ];
-    number
 }
 
 // The answer for all pieces: how many rows. Refused: 11, 12 with the position.
@@ -61,19 +59,16 @@ pub(crate) fn scan_of(blocks: u64, rows: u64, stage: u64, position: u64) -> Scan
     }
 }
 
+#[tactic(auto, unfolding(crate::specs::Scan::stage_at), using(crate::proofs::Scans::stage_wrong))]
 fn stage_of(stage: u64, position: u64) -> Stage
     ensures { stage_of result ≡ stage_at stage position }
 {
-    if stage == 0 {
-        return Stage::Filling;
+    match stage {
+        0 => Stage::Filling,
+        1 => Stage::Short,
+        2 => Stage::Ended,
+        _ => Stage::Wrong(position as usize),
     }
-    if stage == 1 {
-        return Stage::Short;
-    }
-    if stage == 2 {
-        return Stage::Ended;
-    }
-    Stage::Wrong(position as usize)
 }
 
 pub(crate) fn stage_number(stage: Stage) -> u64
@@ -91,9 +86,7 @@ pub(crate) fn stage_position(stage: Stage) -> u64
     ensures { result ≡ stage_position (stage_of stage) }
 {
     match stage {
-        Stage::Filling => 0,
-        Stage::Short => 0,
-        Stage::Ended => 0,
+        Stage::Filling | Stage::Short | Stage::Ended => 0,
         Stage::Wrong(k) => k as u64,
     }
 }

@@ -1,8 +1,11 @@
 -- A report in two arrays of numbers, and what the calls write into them.
-use Rattle.std.specs.Prelude.{ℕ, ◌≡◌, List, [], ◌∷◌, length, get_or, replicate}
+use Rattle.std.specs.Prelude.{ℕ, ◌≡◌, List, [], ◌∷◌, length, get_or, replicate, Result}
+use Rattle.std.specs.Result.{result_unwrap_or}
+use Rattle.archive_file.specs.declared.ArchiveError.{ArchiveError}
 use Rattle.archive_report_model.specs.Report as model
 use Rattle.archive_report.specs.Lines.{lines_length, lines_at, line_numbers}
-use Rattle.archive_report.specs.Report.{lines_added}
+use Rattle.archive_report.specs.declared.Report.{Report}
+use Rattle.archive_report.specs.Report.{report_of, added_result, lines_added}
 use Rattle.c_layout.specs.Lent.{if_done, if_mismatch}
 
 -- archives added, lines, KEPT rows and LOOSE rows; and five numbers for each line
@@ -39,6 +42,13 @@ pub record Adds (expected : model.Addition) (done numbers lines : List ℕ) (pos
   -- if it is 0, every number of both is known
   pub numbers_are : number ≡ 0 → numbers' ≡ report_numbers expected.next
   pub lines_are : number ≡ 0 → lines' ≡ done
+
+-- what is done with an answer: a report is stored; with a refusal both arrays are unchanged
+abbrev pub SettlesReport : Result Report ArchiveError → List ℕ → List ℕ → ℕ → ℕ → ℕ → List ℕ → List ℕ → Type 0
+SettlesReport answer numbers lines position number position' numbers' lines' =
+    (old : Report) → report_of old ≡ report_at numbers lines
+    → Adds (added_result old answer) (result_unwrap_or answer old).lines numbers lines position number position' numbers'
+    lines'
 
 -- the number, and every number of the lent line after the call
 pub record LineCall : Type 0 where

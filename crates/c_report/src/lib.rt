@@ -1,14 +1,14 @@
 // Reports on plain numbers and bytes, as other languages call them. A report is in two lent arrays: its numbers and its lines.
+// Kept (code): the C interface: the calls answer by numbers.
 #![tactic(auto)]
 
 ghost use Rattle.std.specs.Prelude.{◌≡◌};
 ghost use Rattle.archive_report_model.specs.Report as model;
-ghost use Rattle.archive_report.specs.Report.{report_of, archive_outcome_number, archive_outcome_position, looked_number};
-ghost use Rattle.c_layout.specs.Lent.{if_mismatch};
-ghost use Rattle.c_report.specs.Calls.{report_at, report_numbers, empty_lines, lines_with, Adds, line_call, share_call};
+ghost use Rattle.archive_report.specs.Report.{report_of};
+ghost use Rattle.c_report.specs.Calls.{report_at, report_numbers, empty_lines, lines_with, Adds, SettlesReport, line_call, share_call};
 
-use archive_file::ArchiveOutcome;
-use archive_report::{LineAt, Looked, Report, Share};
+use archive_file::ArchiveError;
+use archive_report::Report;
 use base_refusal::Refusal;
 
 // How many archives were added, how many lines there are, KEPT rows, LOOSE rows.
@@ -40,14 +40,12 @@ pub fn add(
         numbers.old lines.old position.old result position.new
         numbers.new lines.new }
 {
-    let added = report_in(numbers, lines).add(buffer);
-    let answer = added.answer;
-    let number = settle(answer, position);
-    if number != 0 {
-        return number;
-    }
-    store(added.next, numbers, lines);
-    number
+    settle(
+        report_in(numbers, lines).add(buffer),
+        numbers,
+        lines,
+        position,
+    )
 }
 
 // Line `i`, five numbers, which are unchanged with a refusal: 11, 10.
@@ -60,20 +58,19 @@ pub fn line(
     ensures { record { number = result; values = line.new }
         ≡ line_call (report_at numbers.now lines.now) i line.old }
 {
-    let found = report_in(numbers, lines).line(i);
-    let answer = found.answer;
-    let looked = looked_number(answer);
-    if looked != 0 {
-        return looked;
+    match report_in(numbers, lines).line(i) {
+        Ok(found) => {
+            *line = [
+                found.identity,
+                found.kept,
+                found.loose,
+                found.earliest,
+                found.latest,
+            ];
+            0
+        }
+        Err(why) => base_refusal::number(why),
     }
-    *line = [
-        found.identity,
-        found.kept,
-        found.loose,
-        found.earliest,
-        found.latest,
-    ];
-    looked
 }
 
 // The share of its rows in receptions, in whole thousandths. Refused: 11, 10.
@@ -87,13 +84,12 @@ pub fn share(
         ≡ share_call (model.share_of (report_at numbers.now lines.now) received)
         thousandths.old }
 {
-    let share = report_in(numbers, lines).share(received);
-    match share {
-        Share::PerMille(t) => {
+    match report_in(numbers, lines).share(received) {
+        Ok(t) => {
             *thousandths = t;
             0
         }
-        Share::Refused(why) => base_refusal::number(why),
+        Err(why) => base_refusal::number(why),
     }
 }
 
@@ -120,24 +116,21 @@ pub fn store(r: Report, numbers: &mut [u64; NUMBERS], lines: &mut [u64; LINES])
     *lines = all;
 }
 
-// The number of an outcome, and the position with 12.
-pub fn settle(outcome: ArchiveOutcome, position: &mut usize) -> u8
-    ensures { (result ≡ archive_outcome_number outcome)
-        × (position.new
-        ≡ if_mismatch (archive_outcome_number outcome) (archive_outcome_position outcome) position.old) }
+// The number of an answer, and the position with 12; without a refusal the report is stored.
+pub fn settle(
+    answer: Result<Report, ArchiveError>,
+    numbers: &mut [u64; NUMBERS],
+    lines: &mut [u64; LINES],
+    position: &mut usize,
+) -> u8
+    ensures { SettlesReport answer numbers.old lines.old position.old result position.new numbers.new lines.new }
 {
-    match outcome {
-        ArchiveOutcome::Done => 0,
-        ArchiveOutcome::Damaged(k) => c_layout::refuse(Refusal::Mismatch, k, position),
-        ArchiveOutcome::Refused(why) => c_layout::refuse(why, 0, position),
-    }
-}
-
-fn looked_number(looked: Looked) -> u8
-    ensures { result ≡ looked_number looked }
-{
-    match looked {
-        Looked::Line => 0,
-        Looked::Refused(why) => base_refusal::number(why),
+    match answer {
+        Ok(next) => {
+            store(next, numbers, lines);
+            0
+        }
+        Err(ArchiveError::Damaged(k)) => c_layout::refuse(Refusal::Mismatch, k, position),
+        Err(ArchiveError::Refused(why)) => c_layout::refuse(why, 0, position),
     }
 }

@@ -1,13 +1,14 @@
 -- The cases of document 01, "Cases, P marks those proved", as document 02 changes them, and figures of document 02.
 -- Each row has what a definition gives and what the documents say. The last three rows are our own cases of ERP2
 -- telegrams.
-use Rattle.std.specs.Prelude.{ℕ, ◌<◌, ◌≡◌, List, [], ◌∷◌, ◌++◌, cond, length, take, replicate, get_or}
+use Rattle.std.specs.Prelude.{ℕ, ◌<◌, ◌≡◌, List, [], ◌∷◌, ◌++◌, cond, length, take, replicate, get_or, is_some, unwrap_or}
 use Rattle.base_crc8.specs.Crc8.{crc_of}
 use Rattle.radio_erp1.specs.Subtelegram.{hash_of, check_of}
 use Rattle.radio_telegram.specs.Addressing.{encapsulated}
 use Rattle.radio_telegram.specs.Repeater.{repeat_of}
 use Rattle.radio_telegram.specs.Output.{result_bytes}
 use Rattle.radio_erp2_model.specs.declared.Telegram.{Telegram}
+use Rattle.radio_erp2_model.specs.Header.{hops_of, announced_of}
 use Rattle.radio_erp2_model.specs.Reading.{Read, read_of}
 use Rattle.radio_erp2_model.specs.Building.{build_of}
 use Rattle.plan_slots.specs.Plan.{plans, standard_rule}
@@ -89,10 +90,11 @@ twice s t = answers_of (run fresh (received one_byte 0 ∷ received s t ∷ []))
 abbrev pub shown_fields : Telegram → List ℕ
 shown_fields t =
     (t.short ∷ t.header.control ∷ t.header.kind ∷ [])
-    ++ (cond t.extension.present 1 0 ∷ t.extension.hops ∷ t.extension.announced ∷ [])
-    ++ (cond t.subtype.present 1 0 ∷ t.subtype.value ∷ cond t.destination.present 1 0 ∷ t.destination.id ∷ t.originator ∷ [])
+    ++ (cond (is_some t.extension) 1 0 ∷ hops_of t.extension ∷ announced_of t.extension ∷ [])
+    ++ (cond (is_some t.subtype) 1 0 ∷ unwrap_or t.subtype 0 ∷ [])
+    ++ (cond (is_some t.destination) 1 0 ∷ unwrap_or t.destination 0 ∷ t.originator ∷ [])
     ++ take t.len t.payload
-    ++ take t.extension.announced t.optional
+    ++ take (announced_of t.extension) t.optional
 
 -- the number, and the fields
 abbrev pub shown_read : Read → List ℕ

@@ -4,9 +4,9 @@
 
 ghost use Rattle.std.specs.Prelude.{◌≡◌, ◌≤◌, length};
 
-use radio_erp1::Checked;
-use radio_telegram::fields::Telegram;
-use radio_telegram::frame::Built;
+use base_refusal::Refusal;
+use radio_telegram::fields::{MAX_DATA, Telegram};
+use radio_telegram::frame::Frame;
 use std::io;
 use std::io::{BufWriter, Read, Write};
 
@@ -17,6 +17,16 @@ const RECORD: usize = 64;
 const MOST: usize = 28;
 
 const LONGEST: usize = 1024;
+
+// What is printed of a telegram that is refused.
+const NO_TELEGRAM: Telegram = Telegram {
+    rorg: 0,
+    payload: [0; MAX_DATA],
+    len: 0,
+    destid: None,
+    txid: [0; 4],
+    status: 0,
+};
 
 fn main(rt: HostRuntime) -> io::Result<()> {
     let mut to = BufWriter::new(rt.alloc(), io::writer(&rt))?;
@@ -60,10 +70,8 @@ fn answer<W: Write>(to: &mut W, r: &[u8]) -> io::Result<()>
 fn crc<W: Write>(to: &mut W, r: &[u8]) -> io::Result<()>
     requires { length r.now ≡ 64 }
 {
-    let n = least(
-        base_numbers::usize_of_byte(r[1]) * 256 + base_numbers::usize_of_byte(r[2]),
-        LONGEST,
-    );
+    let length = base_numbers::usize_of_byte(r[1]) * 256 + base_numbers::usize_of_byte(r[2]);
+    let n = length.min(LONGEST);
     let input = repeated(r, n, pattern_length(base_numbers::usize_of_byte(r[3])));
     test_io::text(to, b"CRC ")?;
     test_io::byte(to, base_crc8::crc8(&input[0..n]))
@@ -77,8 +85,8 @@ fn repeated(r: &[u8], n: usize, p: usize) -> [u8; LONGEST]
     requires p_high { p ≤ 28 }
 {
     let mut input = [0u8; LONGEST];
-    for i in 0..n {
-        input[i] = r[8 + i % p];
+    for (i, b) in input[..n].iter_mut().enumerate() {
+        *b = r[8 + i % p];
     }
     input
 }
@@ -88,31 +96,32 @@ fn pattern_length(len: usize) -> usize
     ensures low { 1 ≤ result }
     ensures high { result ≤ 28 }
 {
-    if len == 0 {
-        return 1;
-    }
-    if MOST < len {
-        return MOST;
-    }
-    len
+    len.max(1).min(MOST)
 }
 
 fn read<W: Write>(to: &mut W, r: &[u8]) -> io::Result<()>
     requires { length r.now ≡ 64 }
 {
-    let n = least(base_numbers::usize_of_byte(r[2]), MOST);
-    let reading = radio_telegram::fields::read(&r[8..8 + n]);
-    let t = reading.telegram;
-    let checked = reading.checked;
-    let destid = t.destid;
-    let txid = t.txid;
+    let n = base_numbers::usize_of_byte(r[2]).min(MOST);
     test_io::text(to, b"READ ")?;
-    test_io::decimal(to, checked_number(checked))?;
-    test_io::text(to, b" ")?;
+    match radio_telegram::fields::read(&r[8..8 + n]) {
+        Ok(t) => {
+            test_io::text(to, b"0 ")?;
+            telegram(to, t)
+        }
+        Err(why) => {
+            test_io::decimal(to, u64::from(base_refusal::number(why)))?;
+            test_io::text(to, b" ")?;
+            telegram(to, NO_TELEGRAM)
+        }
+    }
+}
+
+fn telegram<W: Write>(to: &mut W, t: Telegram) -> io::Result<()> {
     test_io::byte(to, t.rorg)?;
-    flag(to, t.addressed)?;
-    identity(to, destid)?;
-    identity(to, txid)?;
+    flag(to, t.destid.is_some())?;
+    identity(to, t.destid.unwrap_or([0u8; 4]))?;
+    identity(to, t.txid)?;
     test_io::text(to, b" ")?;
     test_io::byte(to, t.status)?;
     test_io::text(to, b" ")?;
@@ -123,7 +132,7 @@ fn read<W: Write>(to: &mut W, r: &[u8]) -> io::Result<()>
 fn output<W: Write>(to: &mut W, r: &[u8]) -> io::Result<()>
     requires { length r.now ≡ 64 }
 {
-    let capacity = least(base_numbers::usize_of_byte(r[1]), MOST);
+    let capacity = base_numbers::usize_of_byte(r[1]).min(MOST);
     let mut out = [0xEEu8; MOST];
     let operation = r[0];
     match operation {
@@ -140,8 +149,7 @@ fn build<W: Write>(to: &mut W, r: &[u8], out: &mut [u8]) -> io::Result<()>
         rorg: r[4],
         payload: payload(&r[16..30]),
         len: base_numbers::usize_of_byte(r[2]),
-        addressed: r[3] == 1,
-        destid: [r[8], r[9], r[10], r[11]],
+        destid: (r[3] == 1).then_some([r[8], r[9], r[10], r[11]]),
         txid: [r[12], r[13], r[14], r[15]],
         status: r[5],
     };
@@ -153,7 +161,7 @@ fn build<W: Write>(to: &mut W, r: &[u8], out: &mut [u8]) -> io::Result<()>
 fn encapsulate<W: Write>(to: &mut W, r: &[u8], out: &mut [u8]) -> io::Result<()>
     requires { length r.now ≡ 64 }
 {
-    let n = least(base_numbers::usize_of_byte(r[2]), MOST);
+    let n = base_numbers::usize_of_byte(r[2]).min(MOST);
     let destid = [r[4], r[5], r[6], r[7]];
     let built = radio_telegram::addressing::encapsulate(&r[8..8 + n], destid, out);
     test_io::text(to, b"ENCAPSULATE ")?;
@@ -163,7 +171,7 @@ fn encapsulate<W: Write>(to: &mut W, r: &[u8], out: &mut [u8]) -> io::Result<()>
 fn decapsulate<W: Write>(to: &mut W, r: &[u8], out: &mut [u8]) -> io::Result<()>
     requires { length r.now ≡ 64 }
 {
-    let n = least(base_numbers::usize_of_byte(r[2]), MOST);
+    let n = base_numbers::usize_of_byte(r[2]).min(MOST);
     let built = radio_telegram::addressing::decapsulate(&r[8..8 + n], out);
     test_io::text(to, b"DECAPSULATE ")?;
     written(to, built, out)
@@ -172,24 +180,32 @@ fn decapsulate<W: Write>(to: &mut W, r: &[u8], out: &mut [u8]) -> io::Result<()>
 fn repeat<W: Write>(to: &mut W, r: &[u8]) -> io::Result<()>
     requires { length r.now ≡ 64 }
 {
-    let n = least(base_numbers::usize_of_byte(r[2]), MOST);
-    let repeated = radio_telegram::repeater::repeat(r[1], &r[8..8 + n]);
-    let answer = repeated.answer;
-    let sent = repeated.sent;
-    let bytes = sent.bytes;
+    let n = base_numbers::usize_of_byte(r[2]).min(MOST);
     test_io::text(to, b"REPEAT ")?;
-    test_io::decimal(to, checked_number(answer))?;
+    match radio_telegram::repeater::repeat(r[1], &r[8..8 + n]) {
+        Ok(sent) => {
+            test_io::text(to, b"0 ")?;
+            frame(to, sent)
+        }
+        Err(why) => {
+            test_io::decimal(to, u64::from(base_refusal::number(why)))?;
+            test_io::text(to, b" ")?;
+            frame(to, Frame::empty())
+        }
+    }
+}
+
+fn frame<W: Write>(to: &mut W, f: Frame) -> io::Result<()> {
+    test_io::decimal(to, f.len as u64)?;
     test_io::text(to, b" ")?;
-    test_io::decimal(to, sent.len as u64)?;
-    test_io::text(to, b" ")?;
-    test_io::hex(to, &bytes)
+    test_io::hex(to, &f.bytes)
 }
 
 fn same<W: Write>(to: &mut W, r: &[u8]) -> io::Result<()>
     requires { length r.now ≡ 64 }
 {
-    let n = least(base_numbers::usize_of_byte(r[2]), MOST);
-    let m = least(base_numbers::usize_of_byte(r[3]), MOST);
+    let n = base_numbers::usize_of_byte(r[2]).min(MOST);
+    let m = base_numbers::usize_of_byte(r[3]).min(MOST);
     test_io::text(to, b"SAME")?;
     flag(to, radio_erp1::same(&r[8..8 + n], &r[36..36 + m]))
 }
@@ -197,26 +213,19 @@ fn same<W: Write>(to: &mut W, r: &[u8]) -> io::Result<()>
 // ---- what is printed for an answer
 
 // The number, the length and all of the output.
-fn written<W: Write>(to: &mut W, built: Built, out: &[u8]) -> io::Result<()> {
+fn written<W: Write>(to: &mut W, built: Result<usize, Refusal>, out: &[u8]) -> io::Result<()> {
     match built {
-        Built::Done(n) => {
+        Ok(n) => {
             test_io::text(to, b"0 ")?;
             test_io::decimal(to, n as u64)?;
         }
-        Built::Refused(why) => {
-            test_io::decimal(to, base_refusal::number(why) as u64)?;
+        Err(why) => {
+            test_io::decimal(to, u64::from(base_refusal::number(why)))?;
             test_io::text(to, b" 0")?;
         }
     }
     test_io::text(to, b" ")?;
     test_io::hex(to, out)
-}
-
-fn checked_number(checked: Checked) -> u64 {
-    match checked {
-        Checked::Valid => 0,
-        Checked::Refused(why) => base_refusal::number(why) as u64,
-    }
 }
 
 fn flag<W: Write>(to: &mut W, set: bool) -> io::Result<()> {
@@ -231,7 +240,7 @@ fn identity<W: Write>(to: &mut W, id: [u8; 4]) -> io::Result<()> {
 // DATA without its zero fill.
 fn data<W: Write>(to: &mut W, t: Telegram) -> io::Result<()> {
     let payload = t.payload;
-    let n = least(t.len, 14);
+    let n = t.len.min(MAX_DATA);
     test_io::hex(to, &payload[0..n])
 }
 
@@ -241,11 +250,4 @@ fn payload(part: &[u8]) -> [u8; 14]
     let mut bytes = [0u8; 14];
     bytes.copy_from_slice(part);
     bytes
-}
-
-fn least(x: usize, y: usize) -> usize
-    ensures first { result ≤ x }
-    ensures second { result ≤ y }
-{
-    if x < y { x } else { y }
 }

@@ -1,79 +1,51 @@
--- What is done with a burst, by each test.
-use mathlib.Core.Path.{◌≡◌, sym, ◌∙◌}
-use mathlib.Core.Bool.{Bool, true, false}
+-- The tests of a burst beside that of the state, by what the code tests.
+--     call-short, call-refused, call-done     the number by its tests
+--     called                        what a call without a refusal says of its numbers
 use Prim.Native.Nat.{ℕ, ◌≤◌, ◌<◌}
 use native.Mathlib.Omega.{arith}
+use native.Mathlib.Decide.{dec_lt}
+use mathlib.Core.Path.{◌≡◌, refl, ◌∙◌}
+use mathlib.Core.Bool.{Bool, true, false, cond, ◌||◌}
+use lib.Dec.{ltb}
 use borrow.Author.Tests.{lt-ltb, le-ltb}
-use Rattle.base_refusal.specs.declared.Refusal.TheVariants.{ShortOutput, Argument, NotAccepted}
+use Rattle.base_refusal.specs.Number.{number_of}
+use Rattle.base_refusal.specs.declared.Refusal.TheVariants.{ShortOutput, Argument}
+use Rattle.base_refusal.proofs.Numbers.{refused-number}
 use Rattle.radio_telegram.specs.Repeater.{max_setting}
-use Rattle.collector_model.specs.Acceptable.{acceptable}
-use Rattle.collector_model.specs.Exact.{Fits}
-use Rattle.collector_state.specs.declared.Collector.{Collector}
-use Rattle.collector_state.specs.Collector.{view_of}
-use Rattle.collector_state.specs.Admission.{Tested}
-use Rattle.base_refusal.specs.declared.Outcome.{Outcome}
-use Rattle.base_refusal.specs.declared.Outcome.TheVariants.{Done, Refused}
-use Rattle.collector_burst.specs.declared.Plan.{Plan}
-use Rattle.collector_model.specs.Burst.{max_burst, call_number, burst_number}
-use Rattle.collector_burst.specs.Private.{Planned}
+use Rattle.collector_model.specs.Burst.{max_burst, call_number}
 
-module _ (c : Collector) (setting n m : ℕ) (fit : Bool) (e : fit ≡ acceptable (view_of c))
-    (fits : Fits (view_of c)) where
-  abbrev plan : ℕ → Outcome → Plan
-  plan count answer = record { fit = fit; count = count; answer = answer }
+module _ (setting n m : ℕ) where
+  pub call-short : m < n → number_of ShortOutput ≡ call_number setting n m
+  unfolding call_number
+  call-short h = rw (lt-ltb m n h)
 
-  tested : Tested fit (view_of c)
-  tested = record { said = e; fits = fits }
+  module _ (room : n ≤ m) where
+    pub call-refused : (ltb max_burst n || ltb max_setting setting) ≡ true
+        → number_of Argument ≡ call_number setting n m
+    unfolding call_number
+    call-refused e = rw (le-ltb m n room) (go (ltb max_burst n) (ltb max_setting setting) e)
+      where
+        go : (a b : Bool) → (a || b) ≡ true
+            → number_of Argument ≡ cond a (number_of Argument) (cond b (number_of Argument) 0)
+        go true b e = refl
+        go false true e = refl
+        go false false e = cc
 
-  pub not-accepted : fit ≡ false → Planned c setting n m (plan 0 (Refused NotAccepted))
-  unfolding burst_number call_number
-  not-accepted f =
-      record {
-        tested = tested;
-        count = rw (sym e ∙ f);
-        few = omega arith;
-        placed = omega arith;
-        answer = rw (sym e ∙ f);
-      }
+    pub call-done : (ltb max_burst n || ltb max_setting setting) ≡ false → 0 ≡ call_number setting n m
+    unfolding call_number
+    call-done e = rw (le-ltb m n room) (go (ltb max_burst n) (ltb max_setting setting) e)
+      where
+        go : (a b : Bool) → (a || b) ≡ false
+            → ◌≡◌ {A = ℕ} 0 (cond a (number_of Argument) (cond b (number_of Argument) 0))
+        go true b e = cc
+        go false true e = cc
+        go false false e = refl
 
-  pub no_room : fit ≡ true → m < n → Planned c setting n m (plan 0 (Refused ShortOutput))
-  unfolding burst_number call_number
-  no_room f h =
-      record {
-        tested = tested;
-        count = rw (sym e ∙ f, lt-ltb m n h);
-        few = omega arith;
-        placed = omega arith;
-        answer = rw (sym e ∙ f, lt-ltb m n h);
-      }
-
-  pub too_many : fit ≡ true → n ≤ m → max_burst < n → Planned c setting n m (plan 0 (Refused Argument))
-  unfolding burst_number call_number
-  too_many f h k = record {
-    tested = tested;
-    count = rw (sym e ∙ f, le-ltb m n h, lt-ltb max_burst n k);
-    few = omega arith;
-    placed = omega arith;
-    answer = rw (sym e ∙ f, le-ltb m n h, lt-ltb max_burst n k);
-  }
-
-  pub bad-setting : fit ≡ true → n ≤ m → n ≤ max_burst → max_setting < setting
-      → Planned c setting n m (plan 0 (Refused Argument))
-  unfolding burst_number call_number
-  bad-setting f h k l = record {
-    tested = tested;
-    count = rw (sym e ∙ f, le-ltb m n h, le-ltb max_burst n k, lt-ltb max_setting setting l);
-    few = omega arith;
-    placed = omega arith;
-    answer = rw (sym e ∙ f, le-ltb m n h, le-ltb max_burst n k, lt-ltb max_setting setting l);
-  }
-
-  pub all_right : fit ≡ true → n ≤ m → n ≤ max_burst → setting ≤ max_setting → Planned c setting n m (plan n Done)
-  unfolding burst_number call_number
-  all_right f h k l = record {
-    tested = tested;
-    count = rw (sym e ∙ f, le-ltb m n h, le-ltb max_burst n k, le-ltb max_setting setting l);
-    few = omega arith;
-    placed = omega arith;
-    answer = rw (sym e ∙ f, le-ltb m n h, le-ltb max_burst n k, le-ltb max_setting setting l);
-  }
+pub called : (setting n m : ℕ) → call_number setting n m ≡ 0 → (n ≤ m) × (n ≤ max_burst)
+called setting n m e = elim (dec_lt m n) [
+  | yes h ↦ absurd (refused-number ShortOutput (call-short setting n m h ∙ e))
+  | no h ↦ elim (dec_lt max_burst n) [
+    | yes k ↦ absurd (refused-number Argument (call-refused setting n m (omega arith) (rw (lt-ltb max_burst n k)) ∙ e))
+    | no k ↦ (omega arith, omega arith)
+  ]
+]

@@ -2,22 +2,21 @@
 --     Going        i receptions are taken, at these arrays, this summary and this list of replies
 --     starts, turns, ends      it holds before the loop, from one turn to the next, and says the result after it
 use mathlib.Core.Path.{◌≡◌, refl, sym, ◌∙◌, ap, ap₂, subst}
-use Prim.Native.Nat.{ℕ, ◌+◌, ◌^◌, ◌≤◌, ◌<◌, zero-le}
+use Prim.Native.Nat.{ℕ, ◌+◌, ◌≤◌, ◌<◌, zero-le}
 use native.Mathlib.Nat.{le_antisymm}
 use native.Mathlib.Numerals.{add-one}
 use native.Mathlib.Omega.{arith}
 use mathlib.Core.Bool.{Bool}
 use mathlib.Core.List.{List, [], ◌∷◌, ◌++◌, map, map-append, append_assoc}
 use lib.ListN.{length, take, drop, get_or, set, length-set, take-append-drop}
-use lib.Seq.{length-take-le, drop-cons, drop-length, get_or-take, take-suc-set, drop-set-lt}
+use lib.Seq.{drop-cons, drop-length, take-suc-set, drop-set-lt}
 use Rattle.collector_model.specs.View.{View}
 use Rattle.collector_state.specs.declared.Summary.{Summary}
 use Rattle.collector_state.specs.Collector.{Columns, view_in}
 use Rattle.collector_burst.specs.declared.Reception.{Reception}
 use Rattle.collector_burst.specs.declared.Reply.{Reply}
-use Rattle.collector_burst.specs.declared.Stepped.{Stepped}
 use Rattle.collector_burst.specs.Records.{reception_of, replied_of}
-use Rattle.collector_burst.specs.Private.{StepResult, Steps, admitted_with, after_tested, columns_tested, replies, Delivered}
+use Rattle.collector_burst.specs.Private.{StepResult, BurstStep, Steps, admitted_with, after_tested, columns_tested, replies, Delivered}
 use Rattle.collector_model.specs.History.{Timely}
 use Rattle.collector_model.specs.Burst.{Replied}
 
@@ -26,20 +25,22 @@ abbrev pub no_reception : Reception
 no_reception = record { bytes = []; len = 0; time = 0 }
 
 module _ (setting : ℕ) (fit : Bool) (a₀ : Columns) (s₀ : Summary) (rs : List Reception)
-    (ys : List Reply) (n : ℕ) where
+    (ys : List Reply) where
   abbrev v : View
   v = view_in a₀ s₀
+
+  abbrev n : ℕ
+  n = length rs
 
   pub record Going (i : ℕ) (a : Columns) (s : Summary) (zs : List Reply) : Type 0 where
     pub within : i ≤ n
     pub long : length zs ≡ length ys
-    pub state : after_tested fit (view_in a s) (drop i (take n rs)) ≡ after_tested fit v (take n rs)
-    pub elements : columns_tested fit (view_in a s) (drop i (take n rs)) a ≡ columns_tested fit v (take n rs) a₀
+    pub state : after_tested fit (view_in a s) (drop i rs) ≡ after_tested fit v rs
+    pub elements : columns_tested fit (view_in a s) (drop i rs) a ≡ columns_tested fit v rs a₀
     pub replied : map replied_of (take i zs)
-        ++ (replies setting fit (view_in a s) (drop i (take n rs)) ++ map replied_of (drop n zs))
-        ≡ replies setting fit v (take n rs) ++ map replied_of (drop n ys)
-    pub timely : Timely (map reception_of (drop i (take n rs))) → Timely (map reception_of (take n rs))
-    pub none : i ≡ 0 → (a ≡ a₀) × (s ≡ s₀)
+        ++ (replies setting fit (view_in a s) (drop i rs) ++ map replied_of (drop n zs))
+        ≡ replies setting fit v rs ++ map replied_of (drop n ys)
+    pub timely : Timely (map reception_of (drop i rs)) → Timely (map reception_of rs)
 
   pub starts : Going 0 a₀ s₀ ys
   starts =
@@ -50,22 +51,19 @@ module _ (setting : ℕ) (fit : Bool) (a₀ : Columns) (s₀ : Summary) (rs : Li
         elements = refl;
         replied = refl;
         timely = λ t. t;
-        none = λ _. (refl, refl);
       }
 
-  module _ (in-rs : n ≤ length rs) (in_ys : n ≤ length ys) where
+  module _ (in_ys : n ≤ length ys) where
     -- what is left of the receptions begins with the next one
-    left : (i : ℕ) → i < n → drop i (take n rs) ≡ get_or rs i no_reception ∷ drop (i + 1) (take n rs)
-    left i h =
-        let inside : i < length (take n rs) = omega (arith, length-take-le n rs in-rs) in
-        rw (add-one, drop-cons (take n rs) i no_reception, get_or-take n rs i no_reception)
+    left : (i : ℕ) → i < n → drop i rs ≡ get_or rs i no_reception ∷ drop (i + 1) rs
+    left i h = rw (add-one, drop-cons rs i no_reception)
 
     module _ {i : ℕ} {a : Columns} {s : Summary} {zs : List Reply} (g : Going i a s zs) where
-      pub turns : i < n → (get_or rs i no_reception).time < 2 ^ 64 → (a' : Columns) (r : Stepped)
+      pub turns : i < n → (a' : Columns) (r : BurstStep)
           → Steps setting fit a s (get_or rs i no_reception) a' r
           → Going (i + 1) a' r.summary (set zs i r.reply)
       unfolding after_tested columns_tested replies
-      turns h small a' r said = record {
+      turns h a' r said = record {
         within = omega arith;
         long = length-set zs i r.reply ∙ g.long;
         state = ap (λ (u : View). after_tested fit u rest) next ∙ ap (after_tested fit here) (sym (left i h)) ∙ g.state;
@@ -96,8 +94,7 @@ module _ (setting : ℕ) (fit : Bool) (a₀ : Columns) (s₀ : Summary) (rs : Li
             (sym (left i h))
             ∙ g.replied;
         timely = λ t. g.timely (subst (λ (l : List Reception). Timely (map reception_of l)) (sym (left i h))
-            (small, t));
-        none = λ e. absurd (omega arith);
+            (said.timely, t));
       }
         where
           here : View
@@ -107,7 +104,7 @@ module _ (setting : ℕ) (fit : Bool) (a₀ : Columns) (s₀ : Summary) (rs : Li
           o = admitted_with setting fit here (reception_of (get_or rs i no_reception))
 
           rest : List Reception
-          rest = drop (i + 1) (take n rs)
+          rest = drop (i + 1) rs
 
           next : view_in a' r.summary ≡ o.next
           next = ap (λ (x : StepResult). x.next) said.said
@@ -118,7 +115,7 @@ module _ (setting : ℕ) (fit : Bool) (a₀ : Columns) (s₀ : Summary) (rs : Li
           inside : i < length zs
           inside = omega (arith, g.long)
 
-      pub ends : n ≤ i → Delivered setting fit a₀ s₀ n rs ys a s zs
+      pub ends : n ≤ i → Delivered setting fit a₀ s₀ rs ys a s zs
       unfolding after_tested columns_tested replies
       ends h = record {
         state = ap (after_tested fit (view_in a s)) (sym none) ∙ g.state;
@@ -131,11 +128,10 @@ module _ (setting : ℕ) (fit : Bool) (a₀ : Columns) (s₀ : Summary) (rs : Li
             (sym none)
             ∙ g.replied;
         timely = g.timely (subst (λ (l : List Reception). Timely (map reception_of l)) (sym none) tt);
-        none = λ e. g.none (all ∙ e);
       }
         where
           all : i ≡ n
           all = le_antisymm g.within h
 
-          none : drop i (take n rs) ≡ []
-          none = ap (λ (k : ℕ). drop k (take n rs)) (all ∙ sym (length-take-le n rs in-rs)) ∙ drop-length (take n rs)
+          none : drop i rs ≡ []
+          none = ap (λ (k : ℕ). drop k rs) all ∙ drop-length rs

@@ -1,30 +1,29 @@
 -- A burst as the model says it: records that are admitted one by one, at a state that was tested once, are steps; and what is planned, delivered and finished
 -- is the burst's result.
 use mathlib.Core.Path.{◌≡◌, refl, sym, ◌∙◌, ap, ap₂}
-use mathlib.Core.Bool.{Bool, true, false, cond}
+use mathlib.Core.Bool.{Bool, true}
 use mathlib.Core.List.{List, [], ◌∷◌, ◌++◌, map}
 use Prim.Native.Nat.{ℕ, zero, suc}
-use lib.Dec.{eqb}
-use lib.ListN.{length, take, drop, length-map}
+use lib.ListN.{length, drop, length-map}
 use borrow.Author.Tests.{ne_eqb}
-use lib.Seq.{take-length}
 use Rattle.collector_model.specs.View as view
 use Rattle.collector_model.specs.View.{View}
 use Rattle.collector_model.specs.Step.{StepOutcome, step}
 use Rattle.collector_state.specs.declared.Collector.{Collector}
 use Rattle.collector_state.specs.declared.Summary.{Summary}
-use Rattle.collector_state.specs.Collector.{Columns, columns_of, columns_after, view_in, view_of}
+use Rattle.collector_state.specs.Collector.{Columns, columns_of, columns_after, view_of}
 use Rattle.collector_state.specs.Admission.{collector_of, Tested}
 use Rattle.collector_state.proofs.Stepping.{admission-fit, columns-fit, tested_next}
 use Rattle.collector_burst.specs.declared.Reception.{Reception}
 use Rattle.collector_burst.specs.declared.Reply.{Reply}
-use Rattle.collector_burst.specs.declared.Bursted.{Bursted}
-use Rattle.collector_burst.specs.declared.Plan.{Plan}
 use Rattle.collector_model.specs.History.{Timely}
-use Rattle.collector_model.specs.Burst.{Replied, reply_with, after_all, replies_to, burst_number, taken}
-use Rattle.base_refusal.specs.Number.{outcome_number}
+use Rattle.collector_model.specs.Burst.{Replied, BurstResult, reply_with, after_all, replies_to, burst_number, taken}
+use Rattle.base_refusal.specs.Number.{number_of}
+use Rattle.base_refusal.specs.declared.Refusal.{Refusal}
+use Rattle.base_refusal.proofs.Numbers.{refused-number}
+use Rattle.std.specs.Prelude.{Ok, Err}
 use Rattle.collector_burst.specs.Records.{reception_of, replied_of, columns_after_all, Bursts}
-use Rattle.collector_burst.specs.Private.{after_tested, columns_tested, replies, Delivered, Planned, BurstFinished}
+use Rattle.collector_burst.specs.Private.{after_tested, columns_tested, replies, Delivered}
 
 -- ---- records one by one
 
@@ -82,71 +81,44 @@ module _ (c : Collector) (setting : ℕ) (rs : List Reception) (ys : List Reply)
       ap (λ (n : ℕ). burst_number setting v n (length places)) (length-map rs reception_of)
       ∙ ap (burst_number setting v (length rs)) (length-map ys replied_of)
 
-  -- the receptions that it stands for are the first `count` records
-  module _ (n : ℕ) (e : n ≡ cond (eqb number 0) (length rs) 0) where
-    front : map reception_of (take n rs) ≡ taken (burst_number setting v (length given) (length places)) given
-    front = ap (λ (k : ℕ). map reception_of (take k rs)) e
-        ∙ go (eqb number 0)
-        ∙ ap (λ (k : ℕ). cond (eqb k 0) given []) (sym same_number)
-      where
-        go : (b : Bool) → map reception_of (take (cond b (length rs) 0) rs) ≡ cond b given []
-        go true = ap (map reception_of) (take-length rs)
-        go false = refl
+  -- the result of a burst with this number
+  shown : ℕ → BurstResult
+  shown number =
+      let t = taken number given in
+      record {
+        number = number;
+        replies = replies_to setting v t ++ drop (length t) places;
+        next = after_all v t;
+      }
 
-    long : n ≡ length (taken (burst_number setting v (length given) (length places)) given)
-    long = e ∙ go (eqb number 0) ∙ ap (λ (k : ℕ). length (cond (eqb k 0) given [])) (sym same_number)
-      where
-        go : (b : Bool) → cond b (length rs) 0 ≡ length (cond b given [])
-        go true = sym (length-map rs reception_of)
-        go false = refl
-
-  pub whole : {p : Plan} {a : Columns} {s : Summary} {zs : List Reply} (r : Bursted)
-      → Planned c setting (length rs) (length ys) p
-      → Delivered setting p.fit (columns_of c) c.summary p.count rs ys a s zs → BurstFinished a s p.answer r
-      → Bursts c setting rs ys r zs
-  unfolding view_of
-  whole {p} {a} {s} {zs} r k d f =
-      record { result = rw (number_is, replies_is, next_is); elements = elements; stays = stays }
+  -- a refused burst stands for no reception
+  pub refused : (why : Refusal) → number_of why ≡ number → Bursts c setting rs ys (Err why) ys
+  unfolding after_all columns_after_all replies_to shown
+  refused why e = record {
+    result = none ∙ ap shown (e ∙ sym same_number);
+    elements = rw (ne_eqb (number_of why) 0 (refused-number why));
+    stays = λ _. refl;
+  }
     where
-      t : List Reception
-      t = take p.count rs
+      none : record { number = number_of why; replies = places; next = v } ≡ shown (number_of why)
+      none = rw (ne_eqb (number_of why) 0 (refused-number why))
 
-      number_is : outcome_number r.answer ≡ burst_number setting v (length given) (length places)
-      number_is = ap outcome_number f.same ∙ k.answer ∙ sym same_number
-
-      replies_is : map replied_of zs
-          ≡ replies_to setting v (taken (burst_number setting v (length given) (length places)) given)
-          ++ drop (length (taken (burst_number setting v (length given) (length places)) given)) places
+  pub whole : {a : Columns} {s : Summary} {zs : List Reply} → number ≡ 0 → Tested true v
+      → Delivered setting true (columns_of c) c.summary rs ys a s zs → Bursts c setting rs ys (Ok (collector_of a s)) zs
+  unfolding view_of shown
+  whole {a} {s} {zs} z k d = record {
+    result =
+        ap₂ (λ (l : List Replied) (u : View). record { number = 0; replies = l; next = u }) replies_is
+        (d.state ∙ after_steps true v rs k d.timely)
+        ∙ ap shown (sym (same_number ∙ z));
+    elements = d.elements ∙ columns_steps true v rs (columns_of c) k d.timely;
+    stays = λ n. absurd (n refl);
+  }
+    where
+      replies_is : map replied_of zs ≡ replies_to setting v given ++ drop (length given) places
       replies_is =
           d.replied
-          ∙ ap (λ (l : List Replied). l ++ map replied_of (drop p.count ys))
-          (replies_steps setting p.fit v t k.tested d.timely)
-          ∙ ap (λ (l : List view.Reception). replies_to setting v l ++ map replied_of (drop p.count ys))
-          (front p.count k.count)
-          ∙ ap (λ (l : List Replied). replies_to setting v
-          (taken (burst_number setting v (length given) (length places)) given)
-          ++ l)
-          (drop-map replied_of p.count ys ∙ ap (λ (n : ℕ). drop n places) (long p.count k.count))
-
-      made : view_of r.next ≡ view_in a s
-      made = ap view_of f.next
-
-      next_is : view_of r.next ≡ after_all v (taken (burst_number setting v (length given) (length places)) given)
-      next_is =
-          made ∙ d.state ∙ after_steps p.fit v t k.tested d.timely
-          ∙ ap (after_all v) (front p.count k.count)
-
-      elements : columns_of r.next ≡ columns_after_all v (taken (outcome_number r.answer) given) (columns_of c)
-      elements =
-          ap columns_of f.next ∙ d.elements ∙ columns_steps p.fit v t (columns_of c) k.tested d.timely
-          ∙ ap (λ (l : List view.Reception). columns_after_all v l (columns_of c)) (front p.count k.count)
-          ∙ ap (λ (n : ℕ). columns_after_all v (taken n given) (columns_of c)) (sym number_is)
-
-      -- a refused burst takes none
-      taken_none : (outcome_number r.answer ≡ 0 → ⊥) → p.count ≡ 0
-      taken_none n = k.count ∙ rw (ne_eqb number 0 (λ z. n (ap outcome_number f.same ∙ k.answer ∙ z)))
-
-      stays : (outcome_number r.answer ≡ 0 → ⊥) → r.next ≡ c
-      stays n =
-          let same = d.none (taken_none n) in
-          f.next ∙ (λ i. collector_of (same.0 i) (same.1 i))
+          ∙ ap (λ (l : List Replied). l ++ map replied_of (drop (length rs) ys))
+          (replies_steps setting true v rs k d.timely)
+          ∙ ap (λ (l : List Replied). replies_to setting v given ++ l)
+          (drop-map replied_of (length rs) ys ∙ ap (λ (n : ℕ). drop n places) (sym (length-map rs reception_of)))

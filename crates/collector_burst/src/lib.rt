@@ -1,15 +1,17 @@
 // Receptions that are handed over in one lent list with a repeater setting, and a second list for the replies (document 02, A1 and A7).
 #![tactic(auto)]
 
-ghost use Rattle.std.specs.Prelude.{◌≡◌, ◌≤◌, min, length};
+ghost use Rattle.std.specs.Prelude.{◌≡◌, ◌≤◌, true, min, length};
+ghost use Rattle.base_refusal.specs.Number.{outcome_number};
 ghost use Rattle.radio_erp1.specs.Subtelegram.{max_length};
-ghost use Rattle.collector_state.specs.Collector.{columns};
+ghost use Rattle.collector_model.specs.Burst.{call_number};
+ghost use Rattle.collector_state.specs.Collector.{columns_lent, SameArrays};
 ghost use Rattle.collector_burst.specs.Records.{Bursts, listed, WithinOf, size_of};
-ghost use Rattle.collector_burst.specs.Private.{Steps, Delivered, Planned, BurstFinished};
+ghost use Rattle.collector_burst.specs.Private.{Steps, Delivered};
 
-use base_refusal::{Outcome, Refusal};
+use base_refusal::Refusal;
 use collector_model::Answer;
-use collector_state::{Collector, Summary, acceptable, merging};
+use collector_state::{Collector, Lent, acceptable, merging};
 use radio_telegram::frame::Frame;
 use radio_telegram::repeater::MAX_SETTING;
 
@@ -19,6 +21,7 @@ pub const MAX_BURST: usize = 256;
 pub const LISTED: usize = MAX_BURST + 3;
 
 // One reception of a list: the first `len` of its bytes, and the moment they were complete, in ms.
+// Kept (buffer): no heap; lists of receptions are lent.
 #[derive(Clone, Copy)]
 pub struct Reception {
     pub bytes: [u8; Collector::MAX_LEN],
@@ -33,55 +36,73 @@ pub struct Reply {
     pub sent: Frame,
 }
 
-// The summary after a reception, and the reply to it.
-#[derive(Clone, Copy)]
-pub struct Stepped {
-    pub summary: Summary,
-    pub reply: Reply,
+// Takes the receptions one by one, and writes the reply to each at the same index of the second list; the entries after them are unchanged. A refused
+// burst changes nothing: 11 if the state is not acceptable, 6 if the second list is shorter, 10 for more than 256 receptions or a setting over 2.
+pub fn burst(
+    mut c: Collector,
+    setting: u8,
+    receptions: &[Reception],
+    replies: &mut [Reply],
+) -> Result<Collector, Refusal>
+    ensures { Bursts c setting receptions.now replies.old result replies.new }
+{
+    if !acceptable::is_acceptable(&c.times, &c.lens, &c.bytes, c.summary) {
+        return Err(Refusal::NotAccepted);
+    }
+    check_call(setting, receptions.len(), replies.len())?;
+    let mut state = Lent {
+        times: &mut c.times,
+        lens: &mut c.lens,
+        bytes: &mut c.bytes,
+        copies: &mut c.copies,
+        summary: c.summary,
+    };
+    deliver(&mut state, setting, receptions, replies);
+    c.summary = state.summary;
+    Ok(c)
 }
 
-// Takes one reception, with a state that is changed in place, and makes what is sent for it at the setting. A length over 21 gets the same answer as
-// no bytes.
-fn take_record<'a>(
-    fit: bool,
-    times: &'a mut [u64; Collector::CAPACITY],
-    lens: &'a mut [u8; Collector::CAPACITY],
-    entries: &'a mut [u8; Collector::CAPACITY * Collector::MAX_LEN],
-    copies: &'a mut [u16; Collector::CAPACITY],
-    summary: Summary,
-    setting: u8,
-    reception: Reception,
-) -> Stepped
-    ensures { Steps setting fit
-        (columns times.old lens.old entries.old copies.old) summary reception
-        (columns times.new lens.new entries.new copies.new) result }
+// The tests of a burst beside that of the state: the setting, the number of receptions, and the number of entries for replies.
+pub fn check_call(setting: u8, receptions: usize, places: usize) -> Result<(), Refusal>
+    ensures { outcome_number result ≡ call_number setting receptions places }
 {
-    let bytes = reception.bytes;
+    if places < receptions {
+        return Err(Refusal::ShortOutput);
+    }
+    if (MAX_BURST < receptions) | (MAX_SETTING < setting) {
+        return Err(Refusal::Argument);
+    }
+    Ok(())
+}
+
+// Takes the receptions at an acceptable state one by one, and writes the reply to each at the same index of the second list.
+fn deliver(state: &mut Lent, setting: u8, receptions: &[Reception], replies: &mut [Reply])
+    requires { length receptions.now ≤ length replies.old }
+    ensures delivers { Delivered setting true (columns_lent state.old) state.old.summary
+        receptions.now replies.old
+        (columns_lent state.new) state.new.summary replies.new }
+    ensures same_loans { SameArrays state.old state.new }
+{
+    for i in 0..receptions.len() {
+        replies[i] = take_record(state, setting, receptions[i]);
+    }
+}
+
+// Takes one reception, with an acceptable state that is changed in place, and makes what is sent for it at the setting. A length over 21 gets the same
+// answer as no bytes.
+fn take_record(state: &mut Lent, setting: u8, reception: Reception) -> Reply
+    ensures steps { Steps setting true (columns_lent state.old) state.old.summary reception
+        (columns_lent state.new) (record { summary = state.new.summary; reply = result }) }
+    ensures same_loans { SameArrays state.old state.new }
+{
+    let received = reception.bytes;
     let n = size(reception.len);
-    let done = merging::admit(
-        fit,
-        times,
-        lens,
-        entries,
-        copies,
-        summary,
-        &bytes[0..n],
-        reception.time,
-    );
-    let next = done.summary;
-    let answer = done.answer;
-    let mut out = [0u8; Collector::MAX_LEN];
-    let len = merging::relay_kept(setting, answer, &bytes[0..n], &mut out);
-    let reply = Reply {
-        answer: answer,
-        sent: Frame {
-            len: len,
-            bytes: out,
-        },
-    };
-    Stepped {
-        summary: next,
-        reply: reply,
+    let answer = state.admit(true, &received[..n], reception.time);
+    let mut sent = [0u8; Collector::MAX_LEN];
+    let len = merging::relay_kept(setting, answer, &received[..n], &mut sent);
+    Reply {
+        answer,
+        sent: Frame { len, bytes: sent },
     }
 }
 
@@ -89,153 +110,14 @@ fn take_record<'a>(
 fn size(len: u8) -> usize
     ensures { (result ≡ size_of len) × (result ≤ max_length) }
 {
-    let n = base_numbers::usize_of_byte(len);
-    if Collector::MAX_LEN < n {
-        return 0;
-    }
-    n
-}
-
-// Takes the first `count` receptions one by one, and writes the reply to each at the same index of the second list.
-fn deliver(
-    fit: bool,
-    times: &mut [u64; Collector::CAPACITY],
-    lens: &mut [u8; Collector::CAPACITY],
-    entries: &mut [u8; Collector::CAPACITY * Collector::MAX_LEN],
-    copies: &mut [u16; Collector::CAPACITY],
-    summary: Summary,
-    setting: u8,
-    count: usize,
-    receptions: &[Reception],
-    replies: &mut [Reply],
-) -> Summary
-    requires { (count ≤ length receptions.now) × (count ≤ length replies.old) }
-    ensures { Delivered setting fit
-        (columns times.old lens.old entries.old copies.old) summary count
-        receptions.now replies.old
-        (columns times.new lens.new entries.new copies.new) result
-        replies.new }
-{
-    let mut s = summary;
-    let mut i: usize = 0;
-    while i < count {
-        // The proof learns from this read that the time has 64 bits.
-        let _time = receptions[i].time;
-        let next = take_record(fit, times, lens, entries, copies, s, setting, receptions[i]);
-        replies[i] = next.reply;
-        s = next.summary;
-        i += 1;
-    }
-    s
-}
-
-// The next state, and whether the burst was taken.
-#[derive(Clone, Copy)]
-pub struct Bursted {
-    pub next: Collector,
-    pub answer: Outcome,
-}
-
-// What is done with a burst: the result of the test of the state, how many of its receptions are taken, and the answer.
-#[derive(Clone, Copy)]
-pub struct Plan {
-    pub fit: bool,
-    pub count: usize,
-    pub answer: Outcome,
-}
-
-// Takes the receptions one by one, and writes the reply to each at the same index of the second list; the entries after them are unchanged. A refused
-// burst changes nothing: 11 if the state is not acceptable, 6 if the second list is shorter, 10 for more than 256 receptions or a setting over 2.
-pub fn burst(c: Collector, setting: u8, receptions: &[Reception], replies: &mut [Reply]) -> Bursted
-    ensures { Bursts c setting receptions.now replies.old result replies.new }
-{
-    let plan = prepare(c, setting, receptions.len(), replies.len());
-    let mut times = c.times;
-    let mut lens = c.lens;
-    let mut entries = c.bytes;
-    let mut copies = c.copies;
-    let summary = deliver(
-        plan.fit,
-        &mut times,
-        &mut lens,
-        &mut entries,
-        &mut copies,
-        c.summary,
-        setting,
-        plan.count,
-        receptions,
-        replies,
-    );
-    finish(times, lens, entries, copies, summary, plan.answer)
-}
-
-fn prepare(c: Collector, setting: u8, receptions: usize, places: usize) -> Plan
-    ensures { Planned c setting receptions places result }
-{
-    let times = c.times;
-    let lens = c.lens;
-    let fit = acceptable::is_acceptable(&times, &lens, &c.bytes, c.summary);
-    if !fit {
-        return Plan {
-            fit: fit,
-            count: 0,
-            answer: Outcome::Refused(Refusal::NotAccepted),
-        };
-    }
-    if places < receptions {
-        return Plan {
-            fit: fit,
-            count: 0,
-            answer: Outcome::Refused(Refusal::ShortOutput),
-        };
-    }
-    if MAX_BURST < receptions {
-        return Plan {
-            fit: fit,
-            count: 0,
-            answer: Outcome::Refused(Refusal::Argument),
-        };
-    }
-    if MAX_SETTING < setting {
-        return Plan {
-            fit: fit,
-            count: 0,
-            answer: Outcome::Refused(Refusal::Argument),
-        };
-    }
-    Plan {
-        fit: fit,
-        count: receptions,
-        answer: Outcome::Done,
-    }
-}
-
-fn finish(
-    times: [u64; Collector::CAPACITY],
-    lens: [u8; Collector::CAPACITY],
-    entries: [u8; Collector::CAPACITY * Collector::MAX_LEN],
-    copies: [u16; Collector::CAPACITY],
-    summary: Summary,
-    answer: Outcome,
-) -> Bursted
-    ensures { BurstFinished (columns times lens entries copies) summary answer result }
-{
-    Bursted {
-        next: Collector {
-            times: times,
-            lens: lens,
-            bytes: entries,
-            copies: copies,
-            summary: summary,
-        },
-        answer: answer,
-    }
+    let n = usize::from(len);
+    if Collector::MAX_LEN < n { 0 } else { n }
 }
 
 // The result of a burst that gets the front of two lists, and the second list after it.
 #[derive(Clone, Copy)]
 pub struct Within {
-    pub bursted: Bursted,
+    pub bursted: Result<Collector, Refusal>,
     pub replies: [Reply; LISTED],
 }
 
@@ -251,13 +133,7 @@ pub fn burst_within(
 ) -> Within
     ensures { WithinOf c setting (min n listed) (min m listed) records replies result }
 {
-    burst_fronts(c, setting, records, most(n), replies, most(m))
-}
-
-fn most(n: usize) -> usize
-    ensures { result ≡ min n listed }
-{
-    if n < LISTED { n } else { LISTED }
+    burst_fronts(c, setting, records, n.min(LISTED), replies, m.min(LISTED))
 }
 
 fn burst_fronts(
@@ -272,14 +148,5 @@ fn burst_fronts(
     ensures { WithinOf c setting n m records replies result }
 {
     let bursted = burst(c, setting, &records[..n], &mut replies[..m]);
-    both(bursted, replies)
-}
-
-fn both(bursted: Bursted, replies: [Reply; LISTED]) -> Within
-    ensures { (result.bursted ≡ bursted) × (result.replies ≡ replies) }
-{
-    Within {
-        bursted: bursted,
-        replies: replies,
-    }
+    Within { bursted, replies }
 }

@@ -3,7 +3,8 @@
 --     restore-unreadable, restore-other, restore-done    what each return has to show
 --     stayed                                             a refusal
 use Prim.Native.Nat.{ℕ, ◌≤◌}
-use mathlib.Core.Path.{◌≡◌, sym, ◌∙◌}
+use mathlib.Core.Path.{◌≡◌, refl, sym, ◌∙◌}
+use Rattle.std.specs.Prelude.{Err}
 use mathlib.Core.Bool.{true, false, false≢true}
 use mathlib.Core.List.{List}
 use lib.Dec.{leb, eqb}
@@ -13,7 +14,7 @@ use Rattle.base_lists.specs.Lists.{up_from}
 use Rattle.base_lists.proofs.Choice.{both}
 use Rattle.base_lists.proofs.Tests.{and-true}
 use Rattle.base_lists.proofs.UpFrom.{length-up_from}
-use Rattle.base_refusal.specs.Number.{number_of, outcome_number}
+use Rattle.base_refusal.specs.Number.{number_of}
 use Rattle.base_refusal.specs.declared.Refusal.TheVariants.{NotAccepted}
 use Rattle.base_refusal.proofs.Numbers.{refused-number}
 use Rattle.radio_telegram.specs.Repeater.{max_setting}
@@ -22,7 +23,6 @@ use Rattle.collector_model.specs.Acceptable.{acceptable}
 use Rattle.collector_model.specs.Image.{RestoreResult, image_length, setting_in, count_in, entry_in, parse, accepts, restore_of}
 use Rattle.collector_checkpoint.specs.Checkpoint.{Restores}
 use Rattle.collector_checkpoint.specs.Private.{is_image_of, is_readable, entries_in}
-use Rattle.collector_checkpoint.specs.declared.Restored.{Restored}
 use Rattle.collector_state.specs.declared.Collector.{Collector}
 use Rattle.collector_state.specs.Collector.{view_of}
 use Rattle.collector_state.proofs.Inside.{fails}
@@ -86,12 +86,7 @@ module _ (image : List ℕ) where
       unfolding restore_of
       restore_done e = rw (ok, accepts_is long small ∙ e)
 
--- a refusal hands back what was handed in
-pub stayed : (c : Collector) (image : List ℕ) (r : Restored)
-    → (r.next ≡ c) × (outcome_number r.answer ≡ number_of NotAccepted)
-    → refused_with (view_of c) ≡ restore_of (view_of c) image → Restores c image r
-stayed c image r k e = record {
-  result = (λ i. record { number = k.1 i; next = view_of (k.0 i) }) ∙ e;
-  elements = λ z. absurd (refused-number NotAccepted (sym k.1 ∙ z));
-  stays = λ _. k.0;
-}
+-- a refusal leaves what was handed in
+pub stayed : (c : Collector) (image : List ℕ) → refused_with (view_of c) ≡ restore_of (view_of c) image
+    → Restores c image (Err NotAccepted)
+stayed c image e = record { result = e; elements = λ z. absurd (refused-number NotAccepted z); stays = λ _. refl }

@@ -4,22 +4,20 @@
 ghost use Rattle.std.specs.Prelude.{◌≡◌, ◌-◌, ◌*◌, ◌≤◌, ◌<◌, min, length, drop};
 ghost use mathlib.Core.List.{◌++◌, map, flatten};
 ghost use Rattle.base_lists.specs.Lists.{padded};
-ghost use Rattle.base_refusal.specs.Number.{number_of, outcome_number};
-ghost use Rattle.base_refusal.specs.declared.Refusal.TheVariants.{NotAccepted};
 ghost use Rattle.base_buffers.specs.Buffer.{overwritten};
 ghost use Rattle.block_layout.specs.Block.{header_length, cells_per_block, block_length, block_header};
 ghost use Rattle.radio_erp1.specs.Subtelegram.{max_length};
 ghost use Rattle.collector_model.specs.View.{capacity};
 ghost use Rattle.collector_model.specs.Header.{header_of};
 ghost use Rattle.collector_model.specs.Image.{image_length, entry_cell, image_with, block_in, used_in_block, first_in, second_in, count_in, totals_in, checkpoint_of};
-ghost use Rattle.collector_state.specs.Collector.{columns, entries_at, view_in, view_of};
+ghost use Rattle.collector_state.specs.Collector.{columns, columns_held, entries_at, view_in, view_of};
 ghost use Rattle.collector_checkpoint.specs.Checkpoint.{checkpoint_result, Restores};
 ghost use Rattle.collector_checkpoint.specs.Private.{block_count, cells_length, entries_from, block_with, Writable, is_image_of, is_readable, cell_in, Reads, Parses};
 
-use base_refusal::{Outcome, Refusal};
+use base_refusal::Refusal;
 use block_layout::{BLOCK_LENGTH, CELL_LENGTH, CELLS_PER_BLOCK, HEADER_LENGTH};
 use collector_model::Totals;
-use collector_state::{Collector, Summary, acceptable};
+use collector_state::{Collector, Held, Summary, acceptable};
 use radio_telegram::repeater::MAX_SETTING;
 
 // How many blocks an image has.
@@ -33,147 +31,107 @@ const NO_SETTING: u64 = 0;
 // The number of bytes of a block between its header and its CRC.
 const CELLS_LENGTH: usize = BLOCK_LENGTH - 1 - HEADER_LENGTH;
 
-// The state of an image; with a refusal, the state that was handed in.
-#[derive(Clone, Copy)]
-pub struct Restored {
-    pub next: Collector,
-    pub answer: Outcome,
-}
-
 // Writes the image of the state into the first 2,560 bytes, with zero in the setting's place. Refused: 11, then 6, and nothing is written.
-pub fn checkpoint(c: Collector, out: &mut [u8]) -> Outcome
+pub fn checkpoint(c: Collector, out: &mut [u8]) -> Result<(), Refusal>
     ensures { checkpoint_result result out.new ≡ checkpoint_of (view_of c) out.old }
 {
-    checkpoint_at(&c.times, &c.lens, &c.bytes, &c.copies, c.summary, out)
+    checkpoint_at(
+        Held {
+            times: &c.times,
+            lens: &c.lens,
+            bytes: &c.bytes,
+            copies: &c.copies,
+            summary: c.summary,
+        },
+        out,
+    )
 }
 
-// The same for a state that is lent: the arrays of its entries, and its summary.
-pub fn checkpoint_at<'a>(
-    times: &'a [u64; Collector::CAPACITY],
-    lens: &'a [u8; Collector::CAPACITY],
-    bytes: &'a [u8; Collector::CAPACITY * Collector::MAX_LEN],
-    copies: &'a [u16; Collector::CAPACITY],
-    summary: Summary,
-    out: &'a mut [u8],
-) -> Outcome
+// The same for a state that is lent.
+pub fn checkpoint_at(state: Held, out: &mut [u8]) -> Result<(), Refusal>
     ensures { checkpoint_result result out.new
-        ≡ checkpoint_of
-        (view_in (columns times.now lens.now bytes.now copies.now) summary)
-        out.old }
+        ≡ checkpoint_of (view_in (columns_held state.entry) state.entry.summary) out.old }
 {
-    if !acceptable::is_acceptable(times, lens, bytes, summary) {
-        return Outcome::Refused(Refusal::NotAccepted);
+    if !state.is_acceptable() {
+        return Err(Refusal::NotAccepted);
     }
     if out.len() < IMAGE_LENGTH {
-        return Outcome::Refused(Refusal::ShortOutput);
+        return Err(Refusal::ShortOutput);
     }
-    put_image(out, times, lens, bytes, copies, summary, NO_SETTING);
-    Outcome::Done
+    put_image(out, state, NO_SETTING);
+    Ok(())
 }
 
 // Restores the state of an image. Refused with 11: an image that no checkpoint writes, or wrote with 1 or 2 in the setting's place; and a state from
 // which no image can be written.
-pub fn restore(c: Collector, image: &[u8]) -> Restored
+pub fn restore(c: Collector, image: &[u8]) -> Result<Collector, Refusal>
     ensures { Restores c image.now result }
 {
     if !acceptable::is_acceptable(&c.times, &c.lens, &c.bytes, c.summary) {
-        return refused(c);
+        return Err(Refusal::NotAccepted);
     }
     if !is_readable(image) {
-        return refused(c);
+        return Err(Refusal::NotAccepted);
     }
     let setting = second_in(image, 3);
     let next = parse(image);
-    if !is_image_of(
-        image,
-        &next.times,
-        &next.lens,
-        &next.bytes,
-        &next.copies,
-        next.summary,
-        setting,
-    ) {
-        return refused(c);
+    let state = Held {
+        times: &next.times,
+        lens: &next.lens,
+        bytes: &next.bytes,
+        copies: &next.copies,
+        summary: next.summary,
+    };
+    if !is_image_of(image, state, setting) {
+        return Err(Refusal::NotAccepted);
     }
-    Restored {
-        next,
-        answer: Outcome::Done,
-    }
-}
-
-// A refusal: the collector is unchanged.
-fn refused(c: Collector) -> Restored
-    ensures { (result.next ≡ c) × (outcome_number result.answer ≡ number_of NotAccepted) }
-{
-    Restored {
-        next: c,
-        answer: Outcome::Refused(Refusal::NotAccepted),
-    }
+    Ok(next)
 }
 
 // ---- writing
 
 // Writes the image of a state into the first 2,560 bytes, with a number in the setting's place: block k, with its two numbers, is in the 512 bytes
 // from 512 k on.
-fn put_image<'a>(
-    out: &mut [u8],
-    times: &'a [u64; Collector::CAPACITY],
-    lens: &'a [u8; Collector::CAPACITY],
-    bytes: &'a [u8; Collector::CAPACITY * Collector::MAX_LEN],
-    copies: &'a [u16; Collector::CAPACITY],
-    summary: Summary,
-    setting: u64,
-)
-    requires { (image_length ≤ length out.old) × Writable lens.now 0 summary.count }
+fn put_image(out: &mut [u8], state: Held, setting: u64)
+    requires { (image_length ≤ length out.old) × Writable state.lens.now 0 state.summary.count }
     ensures { out.new
-        ≡ image_with setting
-        (view_in (columns times.now lens.now bytes.now copies.now) summary)
+        ≡ image_with setting (view_in (columns_held state.entry) state.entry.summary)
         ++ drop image_length out.old }
 {
-    let totals = summary.totals;
-    let firsts = [summary.latest, totals.kept, totals.loose, totals.late, 0];
-    let seconds = [totals.received, totals.copies, totals.damaged, setting, 0];
+    let totals = state.summary.totals;
+    let numbers = [
+        (state.summary.latest, totals.received),
+        (totals.kept, totals.copies),
+        (totals.loose, totals.damaged),
+        (totals.late, setting),
+        (0, 0),
+    ];
+    // Kept (loop): the index is the number of the block and picks its pair of numbers and its part of the buffer.
     for k in 0..BLOCKS {
+        let (first, second) = numbers[k];
         put_block(
             &mut out[BLOCK_LENGTH * k..BLOCK_LENGTH * k + BLOCK_LENGTH],
             k,
-            firsts[k],
-            seconds[k],
-            times,
-            lens,
-            bytes,
-            copies,
-            summary.count,
+            first,
+            second,
+            state,
         );
     }
 }
 
 // Writes block `k` of 512 bytes, with two numbers and its share of the entries.
-fn put_block<'a>(
-    out: &mut [u8],
-    k: usize,
-    a: u64,
-    b: u64,
-    times: &'a [u64; Collector::CAPACITY],
-    lens: &'a [u8; Collector::CAPACITY],
-    bytes: &'a [u8; Collector::CAPACITY * Collector::MAX_LEN],
-    copies: &'a [u16; Collector::CAPACITY],
-    count: usize,
-)
-    requires { (length out.old ≡ block_length) × (k < block_count) × Writable lens.now 0 count }
+fn put_block(out: &mut [u8], k: usize, a: u64, b: u64, state: Held)
+    requires { (length out.old ≡ block_length) × (k < block_count)
+        × Writable state.lens.now 0 state.summary.count }
     ensures { out.new
-        ≡ block_with k a b (entries_at
-        (columns times.now lens.now bytes.now copies.now) count) }
+        ≡ block_with k a b (entries_at (columns_held state.entry) state.entry.summary.count) }
 {
     let first = CELLS_PER_BLOCK * k;
-    let used = used_from(count, first);
+    let used = used_from(state.summary.count, first);
     put_header(&mut out[0..HEADER_LENGTH], k as u8, used, a, b);
     put_cells(
         &mut out[HEADER_LENGTH..HEADER_LENGTH + CELLS_LENGTH],
-        times,
-        lens,
-        bytes,
-        copies,
+        state,
         first,
         used as usize,
     );
@@ -195,55 +153,38 @@ fn put_header(out: &mut [u8], k: u8, used: u8, a: u64, b: u64)
 }
 
 // Writes what is between the header of a block and its CRC: the cells of `used` entries from `first` on, and zeros.
-fn put_cells<'a>(
-    out: &mut [u8],
-    times: &'a [u64; Collector::CAPACITY],
-    lens: &'a [u8; Collector::CAPACITY],
-    bytes: &'a [u8],
-    copies: &'a [u16; Collector::CAPACITY],
-    first: usize,
-    used: usize,
-)
-    requires { (length out.old ≡ cells_length) × (length bytes.now ≡ capacity * max_length)
-        × (used ≤ cells_per_block) × Writable lens.now first used }
+fn put_cells(out: &mut [u8], state: Held, first: usize, used: usize)
+    requires { (length out.old ≡ cells_length) × (used ≤ cells_per_block)
+        × Writable state.lens.now first used }
     ensures { out.new
         ≡ padded cells_length (flatten (map entry_cell
-        (entries_from (columns times.now lens.now bytes.now copies.now)
-        first used))) }
+        (entries_from (columns_held state.entry) first used))) }
 {
+    let bytes = state.bytes;
+    // Kept (loop): four arrays and a buffer go along by one index, and a zip of five is no plainer.
     for i in 0..used {
         let e = first + i;
         let at = Collector::MAX_LEN * e;
-        let len = lens[e] as usize;
+        let len = state.lens[e] as usize;
         block_layout::put_cell(
             &mut out[CELL_LENGTH * i..CELL_LENGTH * i + CELL_LENGTH],
-            times[e],
+            state.times[e],
             &bytes[at..at + len],
-            copies[e],
+            state.copies[e],
         );
     }
     block_layout::clear(&mut out[CELL_LENGTH * used..CELLS_LENGTH]);
 }
 
 // Whether a state is acceptable, and an image is byte for byte what is written for it with this number in the setting's place.
-fn is_image_of<'a>(
-    image: &'a [u8],
-    times: &'a [u64; Collector::CAPACITY],
-    lens: &'a [u8; Collector::CAPACITY],
-    bytes: &'a [u8; Collector::CAPACITY * Collector::MAX_LEN],
-    copies: &'a [u16; Collector::CAPACITY],
-    summary: Summary,
-    setting: u64,
-) -> bool
-    ensures { result ≡ is_image_of setting
-        (view_in (columns times.now lens.now bytes.now copies.now) summary)
-        image.now }
+fn is_image_of(image: &[u8], state: Held, setting: u64) -> bool
+    ensures { result ≡ is_image_of setting (view_in (columns_held state.entry) state.entry.summary) image.now }
 {
-    if !acceptable::is_acceptable(times, lens, bytes, summary) {
+    if !state.is_acceptable() {
         return false;
     }
     let mut again = [0u8; IMAGE_LENGTH];
-    put_image(&mut again, times, lens, bytes, copies, summary, setting);
+    put_image(&mut again, state, setting);
     block_layout::equal(&again, image)
 }
 
@@ -251,14 +192,7 @@ fn is_image_of<'a>(
 fn used_from(count: usize, first: usize) -> u8
     ensures { result ≡ min cells_per_block (count - first) }
 {
-    if count <= first {
-        return 0;
-    }
-    let rest = count - first;
-    if rest < CELLS_PER_BLOCK {
-        return rest as u8;
-    }
-    CELLS_PER_BLOCK as u8
+    count.saturating_sub(first).min(CELLS_PER_BLOCK) as u8
 }
 
 // ---- reading
@@ -301,6 +235,7 @@ fn parse(image: &[u8]) -> Collector
 }
 
 // Reads the first `count` entries of an image into the flat arrays of a state.
+// Kept (group): it fills the arrays of a collector that is made here, and has no summary yet.
 fn read_entries(
     times: &mut [u64],
     lens: &mut [u8],
@@ -316,6 +251,7 @@ fn read_entries(
         (columns times.old lens.old bytes.old copies.old)
         (columns times.new lens.new bytes.new copies.new) }
 {
+    // Kept (loop): four arrays and a buffer go along by one index, and a zip of five is no plainer.
     for i in 0..count {
         let cell = cell_in(image, i);
         times[i] = block_layout::cell_time(cell);
@@ -354,6 +290,7 @@ fn count_in(image: &[u8]) -> usize
     requires { length image.now ≡ image_length }
     ensures { result ≡ count_in image.now }
 {
+    // Kept (loop): tried as the sum of an iterator over the blocks; that the sum fits did not close.
     used_in(image, 0)
         + used_in(image, 1)
         + used_in(image, 2)

@@ -6,16 +6,14 @@ ghost use Rattle.std.specs.Prelude.{◌≡◌, ◌+◌, ◌*◌, ◌≤◌, leng
 ghost use Rattle.base_buffers.specs.Printed.{Printed};
 ghost use Rattle.radio_erp1.specs.Subtelegram.{max_length};
 ghost use Rattle.block_layout.specs.Cell.{cell_of};
-ghost use Rattle.collector_model.specs.View.{capacity};
 ghost use Rattle.history_rows.specs.Closings.{closed_at};
-ghost use Rattle.collector_state.specs.Collector.{columns, view_in, entries_at};
+ghost use Rattle.collector_state.specs.Collector.{columns_held, view_in, entries_at};
 ghost use Rattle.collector_state.specs.Admission.{Tested};
 ghost use Rattle.collector_checkpoint.specs.Private.{Writable};
 ghost use Rattle.collector_closings.specs.Cells.{entry_cells, closed_cells, is_past, past_cell, is_taken};
 
 use block_layout::CELL_LENGTH;
-use collector_state::{Collector, Summary};
-use radio_erp1::Checked;
+use collector_state::{Collector, Held};
 
 // The length of a closing; and the most bytes that one reception closes: those of all telegrams that can be open.
 pub const LENGTH: usize = CELL_LENGTH;
@@ -24,76 +22,57 @@ pub const LONGEST: usize = CELL_LENGTH * Collector::CAPACITY;
 
 // Writes what a reception closes, for a state that is lent, before the reception is admitted: from entry n of 32 bytes on. Returns how many entries
 // are used then. `fit` is the result of the test of the state.
-pub fn put_closings<'a>(
+// Kept (step): `fit` is what a test said of the state. The answer depends on it, and it chooses no step.
+pub fn put_closings(
     fit: bool,
-    times: &'a [u64; Collector::CAPACITY],
-    lens: &'a [u8; Collector::CAPACITY],
-    bytes: &'a [u8; Collector::CAPACITY * Collector::MAX_LEN],
-    copies: &'a [u16; Collector::CAPACITY],
-    summary: Summary,
-    received: &'a [u8],
+    state: Held,
+    received: &[u8],
     time: u64,
-    closed: &'a mut [u8],
+    closed: &mut [u8],
     n: usize,
 ) -> usize
-    requires { Tested fit (view_in (columns times.now lens.now bytes.now copies.now) summary)
-        × (32 * n + 2048 ≤ length closed.old) }
+    requires { Tested fit (view_in (columns_held state) state.summary) × (32 * n + 2048 ≤ length closed.old) }
     ensures { Printed closed.old (32 * n)
         (closed_cells
-        (view_in (columns times.now lens.now bytes.entry.now copies.now) summary)
+        (view_in (columns_held state.entry) state.entry.summary)
         (record { bytes = received.now; time = time }))
         2048 closed.new (32 * result) }
 {
-    let totals = summary.totals;
-    if !will_take(fit, totals.received, summary.latest, received, time) {
+    let totals = state.summary.totals;
+    if !will_take(fit, totals.received, state.summary.latest, received, time) {
         return n;
     }
-    put_past(times, lens, bytes, copies, summary.count, time, closed, n)
+    put_past(state, time, closed, n)
 }
 
 // Whether a reception will be KEPT, COPY or LOOSE.
 fn will_take(fit: bool, received: u64, latest: u64, bytes: &[u8], time: u64) -> bool
     ensures { result ≡ is_taken fit received latest bytes.now time }
 {
-    if !fit {
-        return false;
-    }
-    if received == u64::MAX {
-        return false;
-    }
-    if time < latest {
-        return false;
-    }
-    let checked = radio_erp1::check(bytes);
-    match checked {
-        Checked::Valid => true,
-        Checked::Refused(_) => false,
-    }
+    fit && received != u64::MAX && latest <= time && radio_erp1::check(bytes).is_ok()
 }
 
-// Writes those of the first `count` telegrams that are no longer open.
-fn put_past<'a>(
-    times: &'a [u64; Collector::CAPACITY],
-    lens: &'a [u8; Collector::CAPACITY],
-    bytes: &'a [u8],
-    copies: &'a [u16; Collector::CAPACITY],
-    count: usize,
-    time: u64,
-    closed: &'a mut [u8],
-    n: usize,
-) -> usize
-    requires { Writable lens.now 0 count × (length bytes.now ≡ capacity * max_length)
-        × (32 * n + 2048 ≤ length closed.old) }
+// Writes those telegrams that are no longer open.
+fn put_past(state: Held, time: u64, closed: &mut [u8], n: usize) -> usize
+    requires { Writable state.lens.now 0 state.summary.count × (32 * n + 2048 ≤ length closed.old) }
     ensures { Printed closed.old (32 * n)
-        (entry_cells (closed_at time (entries_at
-        (columns times.now lens.now bytes.now copies.now) count)))
+        (entry_cells (closed_at time (entries_at (columns_held state.entry) state.entry.summary.count)))
         2048 closed.new (32 * result) }
 {
+    let bytes = state.bytes;
     let mut k = n;
-    for i in 0..count {
+    // Kept (loop): four arrays and a buffer go along by one index, and a zip of five is no plainer.
+    for i in 0..state.summary.count {
         let at = Collector::MAX_LEN * i;
-        let len = lens[i] as usize;
-        k = put_entry(closed, k, times[i], &bytes[at..at + len], copies[i], time);
+        let len = state.lens[i] as usize;
+        k = put_entry(
+            closed,
+            k,
+            state.times[i],
+            &bytes[at..at + len],
+            state.copies[i],
+            time,
+        );
     }
     k
 }
@@ -122,8 +101,5 @@ fn put_entry(
 fn is_past(opened: u64, time: u64) -> bool
     ensures { result ≡ is_past opened time }
 {
-    if time < opened {
-        return false;
-    }
-    Collector::MATURITY_MS < time - opened
+    Collector::MATURITY_MS < time.saturating_sub(opened)
 }

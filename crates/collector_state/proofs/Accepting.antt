@@ -132,28 +132,6 @@ module _ (v : View) (count : ℕ) (long : length v.entries ≡ count) where
         pub all_passed : is_summed v.totals ≡ true → leb count v.totals.kept ≡ acceptable v
         all_passed h = sym (tested ∙ rw (timely, telegrams, h))
 
--- ---- the totals
-
-pub summed-not : (n : Totals)
-    → (n.received ≡ n.kept + n.copies + n.loose + n.damaged + n.late → ⊥) → false ≡ is_summed n
-summed-not n h = sym (ne_eqb _ _ h)
-
-pub summed-left : (n : Totals) → n.kept + n.copies + n.loose + n.damaged ≤ n.received
-    → eqb (n.received - n.kept - n.copies - n.loose - n.damaged) n.late ≡ is_summed n
-summed-left n h =
-    let rest = n.received - n.kept - n.copies - n.loose - n.damaged in
-    same_test (eqb rest n.late) (is_summed n)
-    (λ e. eq-eqb _ _ (sum (eqb-true rest n.late e)))
-    (λ e. eq-eqb rest n.late (left (eqb-true _ _ e)))
-  where
-    sum : n.received - n.kept - n.copies - n.loose - n.damaged ≡ n.late
-        → n.received ≡ n.kept + n.copies + n.loose + n.damaged + n.late
-    sum e = omega arith
-
-    left : n.received ≡ n.kept + n.copies + n.loose + n.damaged + n.late
-        → n.received - n.kept - n.copies - n.loose - n.damaged ≡ n.late
-    left e = omega arith
-
 -- ---- what is known of an acceptable state
 
 module _ (v : View) (ok : acceptable v ≡ true) where

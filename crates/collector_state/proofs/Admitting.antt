@@ -1,6 +1,7 @@
 -- One reception at any state whose entries and totals can be counted on, from what the code's steps tell: the answer, that there is room where it is
 -- kept, and the next state.
-use Prim.Native.Nat.{ℕ, ◌-◌, ◌*◌, ◌≤◌, ◌<◌}
+use Rattle.std.specs.Prelude.{Option, Some, None, IfSome}
+use Prim.Native.Nat.{ℕ, ◌-◌, ◌≤◌, ◌<◌}
 use native.Mathlib.Omega.{arith}
 use mathlib.Core.Path.{◌≡◌, refl, sym, ◌∙◌, ap}
 use mathlib.Core.Bool.{Bool, true, false, cond, not, ◌&&◌, false≢true}
@@ -26,13 +27,12 @@ use Rattle.collector_model.specs.Acceptable.{is_summed}
 use Rattle.collector_model.specs.Step.{StepOutcome, max_count, tally, plus_if}
 use Rattle.collector_model.proofs.Check.{Failed, length_wrong, sum_wrong, crc_wrong, nested, check_failed}
 use Rattle.collector_state.specs.declared.Summary.{Summary}
-use Rattle.collector_state.specs.declared.merging.Admitted.{Admitted}
-use Rattle.collector_state.specs.declared.merging.Decision.{Decision}
-use Rattle.collector_state.specs.Collector.{Columns, columns, entries_at, view_in, moved, set_if, last_copy, columns_with}
-use Rattle.collector_state.specs.Admission.{has_copy, reception_check, answer_for, admitted_of, is_safe, number_on, latest_after, open_from, left_after, answer_on, entries_with, admitted, not_admitted, admission, columns_admitted, Admits}
-use Rattle.collector_state.specs.Private.{JudgedBy, Expired, Becomes, counted_only, unchanged, changed, Whole, Decides}
+use Rattle.collector_state.specs.Collector.{Columns, columns, entries_at, view_in, moved, set_if, more_if, last_copy, columns_with}
+use Rattle.collector_state.specs.Admission.{has_copy, reception_check, answer_for, admitted_of, is_safe, number_on, latest_after, open_from, left_after, answer_on, entries_with, admitted, not_admitted, admission, columns_admitted, Admitted, Admits}
+use Rattle.collector_state.specs.Private.{JudgedBy, Expired, counted_only, Changes}
+use Rattle.collector_state.proofs.Decided.{Decision, changed, Whole, Decides}
 use Rattle.collector_state.proofs.Arrays.{entries-length, left-length, found-known}
-use Rattle.collector_state.proofs.Moving.{credit_if, add_if, more_at, changed-entries, expired_open}
+use Rattle.collector_state.proofs.Moving.{credit_if, add_if, credited-is, changed-entries, expired_open}
 
 -- ---- any view
 
@@ -169,18 +169,6 @@ module _ (fit : Bool) (a : Columns) (s : Summary) (r : Reception) where
         λ f. absurd (false≢true (sym f ∙ ap (λ (k : ℕ). is_received (Refused k)) n ∙ number-received (view_in a s) r));
   }
 
-  -- nothing is moved where none goes
-  module _ {s' : Summary} {why : Refusal}
-      (k : Admits fit a s r a (record { summary = s'; answer = answer.Refused why })) where
-    pub decides_refused : Decides fit a s r (unchanged s' why)
-    unfolding moved
-    decides_refused = record {
-      few = omega arith;
-      room = λ k. absurd (false≢true k);
-      inside = λ k. absurd (false≢true k);
-      admits = λ _. k;
-    }
-
   taken-admits : {a' : Columns} (d : Admitted) → admitted_of a' d ≡ admitted (view_in a s) r
       → a' ≡ columns_with (answer_on (view_in a s) r) r (length (view_in a s).entries) (left_after (view_in a s) r) a
       → number_on (view_in a s) r ≡ 0 → admitted (view_in a s) r ≡ admission fit (view_in a s) r → Admits fit a s r a' d
@@ -229,8 +217,8 @@ module _ {a : Columns} {s : Summary} {r : Reception} {gone : ℕ} (k : Looked a 
   latest_is : r.time ≡ latest_after view r
   latest_is = rw k.passed
 
-  module _ (answer : Answer) {entry : ℕ}
-      (by : JudgedBy (drop gone (entries_at a s.count)) r (shown_of answer) entry) where
+  module _ (answer : Answer) {heard : Option ℕ}
+      (by : JudgedBy (drop gone (entries_at a s.count)) r (shown_of answer) heard) where
     answer-said : shown_of answer ≡ answer_on view r
     answer-said =
         by.answer
@@ -239,12 +227,18 @@ module _ {a : Columns} {s : Summary} {r : Reception} {gone : ℕ} (k : Looked a 
         (sym k.passed)
 
     -- a copy is one of an open telegram
-    inside : is_copy (shown_of answer) ≡ true → entry < left
-    inside e =
+    last-inside : is_copy (shown_of answer) ≡ true → last_copy (drop gone (entries_at a s.count)) r < left
+    last-inside e =
         let known = copy-known _ _ _ (ap is_copy (sym by.answer) ∙ e) in
-        rw (by.entry e)
-        (ltb-true _ left
-        (found-known (drop gone (entries_at a s.count)) left r (left-length a gone s.count) ∙ known))
+        ltb-true _ left
+        (found-known (drop gone (entries_at a s.count)) left r (left-length a gone s.count) ∙ known)
+
+    inside : left ≤ capacity → IfSome heard (λ i. i < capacity)
+    inside few = rw by.heard_is (go (is_copy (shown_of answer)) (λ e. omega (arith, last-inside e)))
+      where
+        go : (b : Bool) {k : ℕ} → (b ≡ true → k < capacity) → IfSome (cond b (Some k) None) (λ i. i < capacity)
+        go true h = h refl
+        go false h = tt
 
     -- what is kept is valid, and there is room for it
     module _ {kept : Bool} (keeps : kept ≡ is_kept (shown_of answer)) where
@@ -254,15 +248,13 @@ module _ {a : Columns} {s : Summary} {r : Reception} {gone : ℕ} (k : Looked a 
           (omega (arith, w.0, open_length), (valid-fits r.bytes w.1).1)
 
       -- the law: what is decided, carried out column by column, is what `admitted` says
-      module _ {heard : Bool} (hears : heard ≡ is_copy (shown_of answer)) {count : ℕ}
-          (counts : count ≡ plus_if kept left)
+      module _ {count : ℕ} (counts : count ≡ plus_if kept left)
           {totals : Totals} (tallies : totals ≡ tally (shown_of answer) s.totals) (few : s.count ≤ capacity) where
         abbrev decision : Decision
         decision = record {
           gone = gone;
           left = left;
           heard = heard;
-          entry = entry;
           kept = kept;
           summary = record { count = count; latest = r.time; totals = totals };
           answer = answer;
@@ -273,8 +265,8 @@ module _ {a : Columns} {s : Summary} {r : Reception} {gone : ℕ} (k : Looked a 
             ≡ entries_with (shown_of answer) r (left_after view r)
         next_entries whole =
             let below = k.expired.few in
-            changed-entries a whole decision s.count (omega arith) few r room (λ e. by.entry (sym hears ∙ e))
-            ∙ rw (keeps, hears, left_open) (by_answer (shown_of answer) r (left_after view r))
+            changed-entries a whole decision s.count (omega arith) few r room (is_copy (shown_of answer)) by.heard_is
+            ∙ rw (keeps, left_open) (by_answer (shown_of answer) r (left_after view r))
 
         outcome : Whole a
             → admitted_of (changed decision r a) (record { summary = decision.summary; answer = answer })
@@ -290,28 +282,26 @@ module _ {a : Columns} {s : Summary} {r : Reception} {gone : ℕ} (k : Looked a 
             let back : s.count - (s.count - gone) ≡ gone = omega arith in
             ap (λ (l : List ℕ). columns (changed decision r a).times
             (changed decision r a).lens (changed decision r a).bytes (set_if kept left 0 l))
-            (more_at heard entry (last_copy (left_after view r) r) (moved gone left a.copies)
-            (λ e. by.entry (sym hears ∙ e) ∙ ap (λ (l : List Entry). last_copy l r) left_open))
-            ∙ rw (keeps, hears, answer-said, open_length, entries-length a s.count, back)
+            (credited-is (is_copy (shown_of answer)) _ (moved gone left a.copies) by.heard_is
+            ∙ ap (λ (l : List Entry). more_if (is_copy (shown_of answer)) (last_copy l r) (moved gone left a.copies))
+            left_open)
+            ∙ rw (keeps, answer-said, open_length, entries-length a s.count, back)
 
         pub decides : (fit : Bool) → admitted view r ≡ admission fit view r → Decides fit a s r decision
         decides fit taken = record {
           few = (let below = k.expired.few in omega arith);
           room = room;
-          inside = λ e. omega (arith, inside (sym hears ∙ e));
+          inside = inside (omega arith);
           admits = λ whole. taken-admits fit a s r _ (outcome whole) elements k.passed taken;
         }
 
 -- ---- what is decided is carried out, column by column
 
 pub carried_out : {fit : Bool} {a a' : Columns} {s : Summary} {r : Reception} {d : Decision} → Decides fit a s r d
-    → Becomes capacity a.times a'.times (changed d r a).times
-    → Becomes capacity a.lens a'.lens (changed d r a).lens
-    → Becomes (max_length * capacity) a.bytes a'.bytes (changed d r a).bytes
-    → Becomes capacity a.copies a'.copies (changed d r a).copies
+    → Changes d.gone d.left d.heard d.kept r a a'
     → Admits fit a s r a' (record { summary = d.summary; answer = d.answer })
-carried_out {fit} {a} {a'} {s} {r} {d} k times lens bytes copies =
+carried_out {fit} {a} {a'} {s} {r} {d} k x =
     let whole : Whole a =
-    record { times = times.long; lens = lens.long; bytes = bytes.long; copies = copies.long } in
-    let e : a' ≡ changed d r a = λ i. columns (times.is i) (lens.is i) (bytes.is i) (copies.is i) in
+    record { times = x.times.long; lens = x.lens.long; bytes = x.bytes.long; copies = x.copies.long } in
+    let e : a' ≡ changed d r a = λ i. columns (x.times.is i) (x.lens.is i) (x.bytes.is i) (x.copies.is i) in
     rw e (k.admits whole)

@@ -1,4 +1,5 @@
 -- The entries that columns show: one more, one inside, and which are copies of a reception.
+use Rattle.std.specs.Prelude.{Some, None}
 use Prim.Native.Nat.{ℕ, suc, ◌+◌, ◌-◌, ◌*◌, ◌≤◌, ◌<◌}
 use native.Mathlib.Nat.{zero-add}
 use native.Mathlib.Omega.{arith}
@@ -25,7 +26,7 @@ use Rattle.collector_model.specs.View.{Reception, Entry, tx_maturity}
 use Rattle.collector_model.specs.Acceptable.{is_echo, is_copy_of}
 use Rattle.collector_state.specs.Collector.{Columns, entry_at, entries_at, last_copy}
 use Rattle.collector_state.specs.Admission.{has_copy}
-use Rattle.collector_state.specs.Private.{shown_at}
+use Rattle.collector_state.specs.Private.{shown_at, copy_in}
 use Rattle.collector_state.proofs.Inside.{any_last}
 
 -- the bytes of an entry, as the code lends them
@@ -108,6 +109,15 @@ module _ (a : Columns) where
   unfolding has_copy
   has_none r = rw entries_none
 
+-- there is a copy where the index of the last is that of an entry
+pub found-known : (l : List Entry) (n : ℕ) (r : Reception) → length l ≡ n → ltb (last_copy l r) n ≡ has_copy l r
+unfolding last_copy has_copy
+found-known l n r long =
+    by_test (any (λ x. is_copy_of x r) l)
+    (λ e. lt-ltb (last_index (λ x. is_copy_of x r) l) n (omega (arith, last_low (λ x. is_copy_of x r) l e)) ∙ sym e)
+    (λ e. le-ltb (last_index (λ x. is_copy_of x r) l) n (omega (arith, last_none (λ x. is_copy_of x r) l e)) ∙ sym e)
+
+module _ (a : Columns) where
   -- ---- the entries after the first `gone` of `count`, and the last of them that is a copy
 
   module _ (gone count : ℕ) where
@@ -115,13 +125,13 @@ module _ (a : Columns) where
     left = drop gone (entries_at a count)
 
     pub left-length : length left ≡ count - gone
-    left-length = length-drop gone (entries_at a count) ∙ ap (λ (n : ℕ). n - gone) (entries-length count)
+    left-length = length-drop gone (entries_at a count) ∙ ap (λ (n : ℕ). n - gone) (entries-length a count)
 
     left_get : (k : ℕ) → gone + k < count → get_or left k no_entry ≡ entry_at a (gone + k)
-    left_get k h = get_or-drop gone (entries_at a count) k no_entry ∙ entry_get count (gone + k) h
+    left_get k h = get_or-drop gone (entries_at a count) k no_entry ∙ entry_get a count (gone + k) h
 
     module _ (r : Reception) where
-      pub last_found : (i : ℕ) → gone ≤ i → i < count → is_copy_of (entry_at a i) r ≡ true
+      last_found : (i : ℕ) → gone ≤ i → i < count → is_copy_of (entry_at a i) r ≡ true
           → ((j : ℕ) → i < j → j < count → is_copy_of (entry_at a j) r ≡ false)
           → i - gone ≡ last_copy left r
       unfolding last_copy
@@ -132,20 +142,21 @@ module _ (a : Columns) where
           (λ j k l. let m : gone + j < count = omega (arith, left-length, l) in
           rw (left_get j m) (later (gone + j) (omega arith) m)))
 
-      pub none_found : ((j : ℕ) → gone ≤ j → j < count → is_copy_of (entry_at a j) r ≡ false)
-          → count - gone ≡ last_copy left r
-      unfolding last_copy
-      none_found each = sym (last_none (λ x. is_copy_of x r) left none ∙ left-length)
+      pub copy_found : (i : ℕ) → gone ≤ i → i < count → is_copy_of (entry_at a i) r ≡ true
+          → ((j : ℕ) → i < j → j < count → is_copy_of (entry_at a j) r ≡ false)
+          → Some (i - gone) ≡ copy_in left r
+      copy_found i g h e later =
+          let k = last_found i g h e later in
+          let known : has_copy left r ≡ true =
+          sym (found-known left (count - gone) r left-length)
+          ∙ lt-ltb (last_copy left r) (count - gone) (omega (arith, k)) in
+          rw (known, k)
+
+      pub none_found : ((j : ℕ) → gone ≤ j → j < count → is_copy_of (entry_at a j) r ≡ false) → None ≡ copy_in left r
+      unfolding has_copy
+      none_found each = rw none
         where
-          none : any (λ x. is_copy_of x r) left ≡ false
+          none : has_copy left r ≡ false
           none = none_at (λ x. is_copy_of x r) no_entry left
               (λ j l. let m : gone + j < count = omega (arith, left-length, l) in
               rw (left_get j m) (each (gone + j) (omega arith) m))
-
--- there is a copy where the index of the last is that of an entry
-pub found-known : (l : List Entry) (n : ℕ) (r : Reception) → length l ≡ n → ltb (last_copy l r) n ≡ has_copy l r
-unfolding last_copy has_copy
-found-known l n r long =
-    by_test (any (λ x. is_copy_of x r) l)
-    (λ e. lt-ltb (last_index (λ x. is_copy_of x r) l) n (omega (arith, last_low (λ x. is_copy_of x r) l e)) ∙ sym e)
-    (λ e. le-ltb (last_index (λ x. is_copy_of x r) l) n (omega (arith, last_none (λ x. is_copy_of x r) l e)) ∙ sym e)

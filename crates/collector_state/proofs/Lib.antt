@@ -4,6 +4,7 @@ pub mod Copies
 pub mod Times
 pub mod Accepting
 pub mod Marks
+mod Decided
 pub mod Moving
 pub mod Classifying
 pub mod Admitting
@@ -11,3 +12,4 @@ pub mod Stepping
 pub mod Sending
 pub mod Hearing
 pub mod Counts
+pub mod Loans

@@ -1,14 +1,15 @@
 -- What one reception makes of the entries: those no longer open, those moved to the front, one that is heard again, and one that is put behind them.
+use Rattle.std.specs.Prelude.{Option, Some, None}
+use lib.Seq.{paste}
 use Prim.Native.Nat.{ℕ, zero, suc, ◌+◌, ◌-◌, ◌*◌, ◌≤◌, ◌<◌}
-use native.Mathlib.Nat.{zero-add, add-zero, add_comm, add-suc, suc-add, le_refl}
-use native.Mathlib.Numerals.{add-one}
+use native.Mathlib.Nat.{zero-add, add-zero, add-suc, suc-add, le_refl}
 use native.Mathlib.Omega.{arith}
-use mathlib.Core.Path.{◌≡◌, refl, sym, ◌∙◌, ap, ap₂}
+use mathlib.Core.Path.{◌≡◌, refl, sym, ◌∙◌, ap}
 use mathlib.Core.Bool.{Bool, true, false, cond, false≢true}
 use lib.Dec.{eqb}
 use mathlib.Core.List.{List, [], ◌∷◌, ◌++◌, map, map-append, append_assoc}
-use lib.ListN.{length, get_or, take, drop, set, length-set, length-take, length-drop, length-map, take-append-drop}
-use lib.Seq.{take-suc, take-suc-set, take-set-le, drop-set-lt, get_or-take, get_or-drop, get_or-set_same, get_or-set_other, ext_get_or, drop-drop, drop-cons}
+use lib.ListN.{length, get_or, take, drop, set, length-set, length-take, length-map, take-append-drop}
+use lib.Seq.{take-set-le, get_or-take, get_or-drop, get_or-set_same, get_or-set_other, ext_get_or, drop-drop, drop-cons}
 use lib.Seq.{take-take, take_at, drop_at, take-append_seam, take-length, drop-append-le, length-take-le, length_front}
 use borrow.Author.Tests.{eqb-true, eqb-false}
 use borrow.Rule.Slice.PartMut.{mid_of, put_mid}
@@ -23,54 +24,22 @@ use Rattle.collector_model.specs.View.{Reception, Entry, opened, recount, capaci
 use Rattle.collector_model.specs.Acceptable.{is_copy_of}
 use Rattle.collector_model.specs.Step.{plus_if, credit}
 use Rattle.collector_model.proofs.Copies.{length-credit, credit_at}
-use Rattle.collector_state.specs.declared.merging.Decision.{Decision}
 use Rattle.collector_state.specs.Collector.{Columns, columns, entry_at, entries_at, moved, set_if, more_if, put_if, last_copy}
 use Rattle.collector_state.specs.Admission.{open_from}
-use Rattle.collector_state.specs.Private.{Expired, changed, Whole}
+use Rattle.collector_state.specs.Private.{Expired, credited}
+use Rattle.collector_state.proofs.Decided.{Decision, changed, Whole}
 use Rattle.collector_state.proofs.Arrays.{no_entry, entries-length, entry_get, entries-more}
 
--- ---- the loop that moves, over an array of any numbers: the first i of n stand there, and the others are as they were
+-- ---- the move itself
 
-pub record Moving (from n i : ℕ) (old xs : List ℕ) : Type 0 where
-  pub bounded : i ≤ n
-  pub long : length xs ≡ length old
-  pub passed : take i xs ≡ take i (drop from old)
-  pub rest : drop i xs ≡ drop i old
+pub moved_none : {A : Type 0} {gone : ℕ} (n : ℕ) (old : List A) → gone ≡ 0 → old ≡ moved gone n old
+unfolding moved
+moved_none n old e = rw e (sym (take-append-drop n old))
 
-pub moving_none : (from n : ℕ) (old : List ℕ) → Moving from n 0 old old
-moving_none from n old = record { bounded = omega arith; long = refl; passed = refl; rest = refl }
-
-module _ (from n i : ℕ) (old xs : List ℕ) (m : Moving from n i old xs)
-    (below : i < n) (fits : from + i < length old) where
-  unmoved : get_or xs (from + i) 0 ≡ get_or (drop from old) i 0
-  unmoved =
-      rw (get_or-drop from old i 0, add_comm from i)
-      (sym (get_or-drop i xs from 0) ∙ ap (λ (l : List ℕ). get_or l from 0) m.rest ∙ get_or-drop i old from 0)
-
-  pub moving_more : Moving from n (i + 1) old (set xs i (get_or xs (from + i) 0))
-  moving_more =
-      let long = m.long in
-      record {
-        bounded = omega arith;
-        long = length-set xs i (get_or xs (from + i) 0) ∙ m.long;
-        passed =
-            rw (add-one, take-suc-set xs i (get_or xs (from + i) 0) (omega arith), m.passed, unmoved)
-            (sym (take-suc (drop from old) i 0 (simp length-drop (omega arith))));
-        rest =
-            drop-set-lt (i + 1) xs i (get_or xs (from + i) 0) (omega arith)
-            ∙ sym (drop-drop 1 i xs) ∙ ap (drop 1) m.rest ∙ drop-drop 1 i old;
-      }
-
-module _ (n : ℕ) (old : List ℕ) where
-  pub moved_none : {from : ℕ} → from ≡ 0 → old ≡ moved from n old
-  unfolding moved
-  moved_none e = rw e (sym (take-append-drop n old))
-
-  pub moved_all : (from : ℕ) (xs : List ℕ) {i : ℕ} → n ≤ i → Moving from n i old xs → xs ≡ moved from n old
-  unfolding moved
-  moved_all from xs {i} h m =
-      let e : i ≡ n = omega (arith, m.bounded) in
-      sym (take-append-drop n xs) ∙ ap₂ ◌++◌ (rw e at m.passed) (rw e at m.rest)
+pub moved_within : {A : Type 0} (gone n end : ℕ) (old : List A) → end ≡ gone + n
+    → paste old 0 (drop gone old) (end - gone) ≡ moved gone n old
+unfolding moved
+moved_within gone n end old e = let k : end - gone ≡ n = omega arith in rw (k, zero-add)
 
 -- ---- what stands after a move
 
@@ -143,16 +112,10 @@ credit_if test r l = cond test (credit (λ n. capped (n + 1)) (λ e. is_copy_of 
 abbrev more_copies : Bool → ℕ → Columns → Columns
 more_copies test i a = columns a.times a.lens a.bytes (more_if test i a.copies)
 
-module _ (i : ℕ) (l : List ℕ) {test : Bool} where
-  pub more_none : test ≡ false → l ≡ more_if test i l
-  more_none e = rw e
-
-  pub more_one : {x : ℕ} → test ≡ true → x ≡ capped (get_or l i 0 + 1) → set l i x ≡ more_if test i l
-  more_one e f = rw (e, f)
-
-pub more_at : (test : Bool) (i k : ℕ) (l : List ℕ) → (test ≡ true → i ≡ k) → more_if test i l ≡ more_if test k l
-more_at true i k l e = ap (λ (n : ℕ). more_if true n l) (e refl)
-more_at false i k l e = refl
+pub credited-is : (test : Bool) (k : ℕ) {heard : Option ℕ} (l : List ℕ) → heard ≡ cond test (Some k) None
+    → credited heard l ≡ more_if test k l
+credited-is true k l e = rw e
+credited-is false k l e = rw e
 
 more-length : (test : Bool) (i : ℕ) (l : List ℕ) → length (more_if test i l) ≡ length l
 more-length true i l = length-set l i _
@@ -315,11 +278,12 @@ module _ (a : Columns) (whole : Whole a) (d : Decision) (count : ℕ)
   }
 
   pub changed-entries : (d.kept ≡ true → (d.left < capacity) × (length r.bytes ≤ max_length))
-      → (d.heard ≡ true → d.entry ≡ last_copy (drop d.gone (entries_at a count)) r)
+      → (test : Bool) → d.heard ≡ cond test (Some (last_copy (drop d.gone (entries_at a count)) r)) None
       → entries_at (changed d r a) (plus_if d.kept d.left)
-      ≡ add_if d.kept (opened r) (credit_if d.heard r (drop d.gone (entries_at a count)))
-  changed-entries room last =
-      put_entries d.kept d.left r (more_copies d.heard d.entry front)
+      ≡ add_if d.kept (opened r) (credit_if test r (drop d.gone (entries_at a count)))
+  changed-entries room test hears =
+      let k = last_copy (drop d.gone (entries_at a count)) r in
+      put_entries d.kept d.left r (more_copies test k front)
       (changed d r a) (λ e. (room e).1) (record {
         times =
             set-put d.kept d.left r.time front.times (λ e. omega (arith, (room e).0, front_whole.times));
@@ -330,13 +294,14 @@ module _ (a : Columns) (whole : Whole a) (d : Decision) (count : ℕ)
             all_put d.kept (max_length * d.left) r.bytes front.bytes
             (λ e. omega (arith, (room e).0, (room e).1, front_whole.bytes));
         copies =
-            set-put d.kept d.left 0 (more_if d.heard d.entry front.copies)
-            (λ e. omega (arith, (room e).0, more-length d.heard d.entry front.copies, front_whole.copies));
+            rw (credited-is test k front.copies hears)
+            (set-put d.kept d.left 0 (more_if test k front.copies)
+            (λ e. omega (arith, (room e).0, more-length test k front.copies, front_whole.copies)));
       })
       ∙ ap (add_if d.kept (opened r))
-      (credited-entries front d.entry d.left r (omega (arith, front_whole.copies)) d.heard
-      (λ e. last e ∙ ap (λ (l : List Entry). last_copy l r) (sym moved_all_four))
-      ∙ ap (credit_if d.heard r) moved_all_four)
+      (credited-entries front k d.left r (omega (arith, front_whole.copies)) test
+      (λ e. ap (λ (l : List Entry). last_copy l r) (sym moved_all_four))
+      ∙ ap (credit_if test r) moved_all_four)
 
 -- ---- which are no longer open
 

@@ -6,8 +6,8 @@ use mathlib.Core.Path.{◌≡◌, refl, ◌∙◌, ap}
 use mathlib.Core.Bool.{Bool, true, false, ◌&&◌}
 use mathlib.Core.List.{List, [], ◌∷◌, map, map-map}
 use lib.Dec.{leb}
-use lib.ListN.{length, get_or, take, drop}
-use lib.Seq.{drop-cons, slice, slice-cons, slice_empty}
+use lib.ListN.{length, get_or, take, drop, drop_of_length-le}
+use lib.Seq.{drop-cons}
 use borrow.Author.Tests.{le-leb, lt-leb, leb-true}
 use Rattle.base_lists.specs.Lists.{all, pairwise, up_from}
 use Rattle.base_lists.proofs.Choice.{both}
@@ -113,19 +113,19 @@ pub timely_by : (a : Columns) (count latest : ℕ) → count ≤ length a.times
 timely_by a count latest h = rw (← times_of a count h) (timely-rising latest (entries_at a count))
 
 -- a turn of the loop over the times
-module _ (times : List ℕ) (i count lo hi : ℕ) (h : i < count) (k : count ≤ length times) where
-  rising_at : rising lo hi (slice i count times)
-      ≡ (leb lo (get_or times i 0) && rising (get_or times i 0) hi (slice (i + 1) count times))
+module _ (ts : List ℕ) (i lo hi : ℕ) where
+  module _ (h : i < length ts) where
+    rising_at : rising lo hi (drop i ts) ≡ (leb lo (get_or ts i 0) && rising (get_or ts i 0) hi (drop (i + 1) ts))
+    unfolding rising
+    rising_at = rw (add-one, drop-cons ts i 0)
+
+    pub rising-not : get_or ts i 0 < lo → rising lo hi (drop i ts) ≡ false
+    rising-not n = rising_at ∙ rw (lt-leb lo (get_or ts i 0) n)
+
+    pub rising-more : lo ≤ get_or ts i 0
+        → rising lo hi (drop i ts) ≡ rising (get_or ts i 0) hi (drop (i + 1) ts)
+    rising-more n = rising_at ∙ rw (le-leb lo (get_or ts i 0) n)
+
+  pub rising_end : length ts ≤ i → rising lo hi (drop i ts) ≡ leb lo hi
   unfolding rising
-  rising_at = rw (add-one, slice-cons i count times 0 h k)
-
-  pub rising-not : get_or times i 0 < lo → rising lo hi (slice i count times) ≡ false
-  rising-not n = rising_at ∙ rw (lt-leb lo (get_or times i 0) n)
-
-  pub rising-more : lo ≤ get_or times i 0
-      → rising lo hi (slice i count times) ≡ rising (get_or times i 0) hi (slice (i + 1) count times)
-  rising-more n = rising_at ∙ rw (le-leb lo (get_or times i 0) n)
-
-pub rising_end : (times : List ℕ) (count lo hi : ℕ) → rising lo hi (slice count count times) ≡ leb lo hi
-unfolding rising
-rising_end times count lo hi = rw (slice_empty count times)
+  rising_end h = rw (drop_of_length-le ts h)

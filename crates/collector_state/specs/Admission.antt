@@ -10,13 +10,13 @@ use Rattle.base_refusal.specs.Number.{number_of}
 use Rattle.base_refusal.specs.declared.Refusal.TheVariants as refusal
 use Rattle.radio_telegram.specs.Frame.{frame_of}
 use Rattle.radio_telegram.specs.Repeater.{relay_of}
+use Rattle.collector_model.specs.declared.Answer.{Answer}
 use Rattle.collector_model.specs.Answer.{Shown, Kept, Copy, Loose, Refused, is_kept, is_accepted, is_received, shown_of}
 use Rattle.collector_model.specs.Step.{StepOutcome, max_count, step, tally, credit, sent_for}
 use Rattle.base_refusal.specs.declared.Refusal.{Refusal}
 use Rattle.base_refusal.specs.declared.Refusal.TheVariants.{Full, NotAccepted}
 use Rattle.collector_model.specs.Exact.{Fits}
 use Rattle.collector_state.specs.declared.Summary.{Summary}
-use Rattle.collector_state.specs.declared.merging.Admitted.{Admitted}
 use Rattle.collector_state.specs.Collector.{Columns, view_in, columns_with, columns_after}
 
 -- ---- one reception
@@ -45,6 +45,11 @@ has_copy l r = any (λ e. is_copy_of e r) l
 -- the state of columns and a summary
 abbrev pub collector_of : Columns → Summary → Collector
 collector_of a s = record { times = a.times; lens = a.lens; bytes = a.bytes; copies = a.copies; summary = s }
+
+-- the summary after a reception, and the answer
+pub record Admitted : Type 0 where
+  pub summary : Summary
+  pub answer : Answer
 
 -- the answer and the next state
 abbrev pub admitted_of : Columns → Admitted → StepOutcome

@@ -1,12 +1,16 @@
 -- The view of a collector's state in arrays, and what `take` gives (document 01, "Merging").
-use Rattle.std.specs.Prelude.{ℕ, ◌+◌, ◌-◌, ◌*◌, length, get_or, take, drop, set, ◌≡◌, Bool, false, cond}
+use Rattle.std.specs.Prelude.{ℕ, ◌+◌, ◌-◌, ◌*◌, length, get_or, take, drop, set, ◌≡◌, Bool, false, cond, Result, Ok, Err}
 use mathlib.Core.List.{List, [], ◌++◌, map, flatten}
+use Rattle.base_refusal.specs.Number.{number_of}
+use Rattle.base_refusal.specs.declared.Refusal.{Refusal}
 use Rattle.base_lists.specs.Lists.{padded, up_from, last_index}
 use Rattle.radio_erp1.specs.Subtelegram.{max_length}
 use Rattle.base_buffers.specs.Buffer.{part, resized}
 use Rattle.collector_model.specs.View.{Entry, View, Reception, capacity, capped, still_open, fresh}
 use Rattle.collector_model.specs.Acceptable.{is_copy_of}
 use Rattle.collector_state.specs.declared.Collector.{Collector}
+use Rattle.collector_state.specs.declared.Held.{Held}
+use Rattle.collector_state.specs.declared.Lent.{Lent}
 use Rattle.collector_state.specs.declared.Summary.{Summary}
 use Rattle.collector_model.specs.Answer.{Shown, is_kept, is_copy, is_accepted, is_received, shown_of}
 use Rattle.collector_model.specs.Step.{StepOutcome, step}
@@ -22,6 +26,20 @@ pub record Columns : Type 0 where
 -- the columns of lent arrays
 abbrev pub columns : List ℕ → List ℕ → List ℕ → List ℕ → Columns
 columns times lens bytes copies = record { times = times; lens = lens; bytes = bytes; copies = copies }
+
+-- the columns of a state that is lent, to be read and to be changed
+abbrev pub columns_held : Held → Columns
+columns_held s = columns s.times.now s.lens.now s.bytes.now s.copies.now
+
+abbrev pub columns_lent : Lent → Columns
+columns_lent s = columns s.times.now s.lens.now s.bytes.now s.copies.now
+
+-- after a call the same four arrays are lent
+pub record SameArrays (s s' : Lent) : Type 0 where
+  pub times : s'.times.ghost_name ≡ s.times.ghost_name
+  pub lens : s'.lens.ghost_name ≡ s.lens.ghost_name
+  pub bytes : s'.bytes.ghost_name ≡ s.bytes.ghost_name
+  pub copies : s'.copies.ghost_name ≡ s.copies.ghost_name
 
 -- entry i: its bytes, time and number of copies. It has as many bytes as its length says, also if that is over 21.
 abbrev pub entry_at : Columns → ℕ → Entry
@@ -66,7 +84,7 @@ pub record IsFresh (c : Collector) : Type 0 where
 -- ---- every element of the arrays after a reception
 
 -- the n elements after the first `gone` are moved to the front; the rest is unchanged
-unfoldable pub moved : ℕ → ℕ → List ℕ → List ℕ
+unfoldable pub moved : {A : Type 0} → ℕ → ℕ → List A → List A
 moved gone n l = take n (drop gone l) ++ drop n l
 
 -- element i is set to x, if a test passes
@@ -116,3 +134,15 @@ pub record Takes (c : Collector) (r : Reception) (t : Taken) : Type 0 where
   pub outcome : step_outcome_of t ≡ step (view_of c) r
   pub elements : columns_of t.next ≡ columns_after (view_of c) r (columns_of c)
   pub stays : is_received (shown_of t.answer) ≡ false → t.next ≡ c
+
+-- ---- a call that gives the next state, or is refused
+
+-- the number of its answer: 0 says done
+abbrev pub next_number : Result Collector Refusal → ℕ
+next_number (Ok d) = 0
+next_number (Err why) = number_of why
+
+-- the state after the call: with a refusal, the one that was handed in
+abbrev pub next_in : Collector → Result Collector Refusal → Collector
+next_in c (Ok d) = d
+next_in c (Err why) = c

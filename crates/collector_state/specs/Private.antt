@@ -1,7 +1,7 @@
 -- What the contracts of private functions say: the test of a state, in the parts in which the code tests it (document
 -- 01, "Parked collector"), and one reception, in the parts in which the code takes it ("Merging"). No public contract
 -- cites these.
-use Rattle.std.specs.Prelude.{ℕ, ◌*◌, ◌+◌, ◌-◌, ◌%◌, ◌≤◌, ◌<◌, List, get_or, length, ◌≡◌, Bool, true, false, not, ◌&&◌, leb}
+use Rattle.std.specs.Prelude.{ℕ, ◌*◌, ◌+◌, ◌-◌, ◌%◌, ◌≤◌, ◌<◌, List, get_or, length, ◌≡◌, Bool, true, false, cond, not, ◌&&◌, leb, Option, Some, None, IfSome}
 use Rattle.base_lists.specs.Lists.{all, pairwise}
 use Rattle.radio_erp1.specs.Subtelegram.{max_length, is_valid}
 use Rattle.base_buffers.specs.Buffer.{part, resized}
@@ -14,9 +14,8 @@ use Rattle.collector_state.specs.declared.merging.Judged.{Judged}
 use Rattle.collector_state.specs.declared.merging.Judged.TheVariants as judged
 use Rattle.base_refusal.specs.Number.{number_of}
 use Rattle.base_refusal.specs.declared.Refusal.{Refusal}
-use Rattle.collector_model.specs.declared.Answer.TheVariants as answer
 use Rattle.collector_state.specs.declared.Summary.{Summary}
-use Rattle.collector_state.specs.declared.merging.Decision.{Decision}
+use Rattle.collector_model.specs.declared.Answer.{Answer}
 use Rattle.collector_state.specs.Collector.{Columns, entry_at, entries_at, moved, set_if, more_if, put_if, last_copy}
 use Rattle.collector_state.specs.Admission.{answer_for, has_copy, Admits}
 
@@ -48,16 +47,14 @@ marks = 1024
 unfoldable pub mark_of : List ℕ → ℕ
 mark_of s = (4 * get_or s (length s - 3) 0 + 67 * get_or s (length s - 4) 0 + 29 * get_or s 1 0) % marks
 
--- r is the mark of a valid telegram; or it is no mark, and the telegram is not valid
-pub record MarkedAs (s : List ℕ) (r : ℕ) : Type 0 where
-  pub valid : r < marks → is_valid s ≡ true
-  pub mark : r < marks → r ≡ mark_of s
-  pub invalid : marks ≤ r → is_valid s ≡ false
+-- the mark of a valid telegram
+abbrev pub mark_in : List ℕ → Option ℕ
+mark_in s = cond (is_valid s) (Some (mark_of s)) None
 
 -- r is what is known, if the mark was seen before; else no
-pub record Repeated (seen : ℕ) (known r : Bool) : Type 0 where
-  pub new : seen ≡ 0 → r ≡ false
-  pub old : (seen ≡ 0 → ⊥) → r ≡ known
+pub record Repeated (seen known r : Bool) : Type 0 where
+  pub new : seen ≡ false → r ≡ false
+  pub old : seen ≡ true → r ≡ known
 
 -- ---- one reception: what is decided, and what that does with each array
 
@@ -68,15 +65,19 @@ judged_as (judged.Copy entry) = Copy
 judged_as judged.Loose = Loose
 
 -- for a copy, the entry that it is a copy of
-abbrev pub judged_entry : Judged → ℕ
-judged_entry judged.Kept = 0
-judged_entry (judged.Copy entry) = entry
-judged_entry judged.Loose = 0
+abbrev pub judged_heard : Judged → Option ℕ
+judged_heard judged.Kept = None
+judged_heard (judged.Copy entry) = Some entry
+judged_heard judged.Loose = None
+
+-- the last of the entries that r is a copy of, if there is one
+abbrev pub copy_in : List Entry → Reception → Option ℕ
+copy_in l r = cond (has_copy l r) (Some (last_copy l r)) None
 
 -- both as the open telegrams decide
-pub record JudgedBy (l : List Entry) (r : Reception) (shown : Shown) (which : ℕ) : Type 0 where
+pub record JudgedBy (l : List Entry) (r : Reception) (shown : Shown) (heard : Option ℕ) : Type 0 where
   pub answer : shown ≡ answer_for 0 (has_copy l r) (leb capacity (length l))
-  pub entry : is_copy shown ≡ true → which ≡ last_copy l r
+  pub heard_is : heard ≡ cond (is_copy shown) (Some (last_copy l r)) None
 
 -- the summary after a reception that was refused for this reason: it is only counted
 abbrev pub counted_only : Summary → Refusal → Summary
@@ -98,38 +99,23 @@ pub record Becomes (n : ℕ) (old new said : List ℕ) : Type 0 where
   pub long : length old ≡ n
   pub is : new ≡ said
 
--- refused: nothing is changed
-abbrev pub unchanged : Summary → Refusal → Decision
-unchanged s why = record {
-  gone = 0;
-  left = 0;
-  heard = false;
-  entry = 0;
-  kept = false;
-  summary = s;
-  answer = answer.Refused why;
+-- one of the numbers of copies is raised by one, up to the ceiling, if an entry was heard again
+abbrev pub credited : Option ℕ → List ℕ → List ℕ
+credited None l = l
+credited (Some i) l = more_if true i l
+
+-- the columns after these changes
+abbrev pub columns_changed : ℕ → ℕ → Option ℕ → Bool → Reception → Columns → Columns
+columns_changed gone left heard kept r a = record {
+  times = set_if kept left r.time (moved gone left a.times);
+  lens = set_if kept left (length r.bytes) (moved gone left a.lens);
+  bytes = put_if kept (max_length * left) r.bytes (moved (max_length * gone) (max_length * left) a.bytes);
+  copies = set_if kept left 0 (credited heard (moved gone left a.copies));
 }
 
--- the columns after the changes that were decided
-abbrev pub changed : Decision → Reception → Columns → Columns
-changed d r a = record {
-  times = set_if d.kept d.left r.time (moved d.gone d.left a.times);
-  lens = set_if d.kept d.left (length r.bytes) (moved d.gone d.left a.lens);
-  bytes = put_if d.kept (max_length * d.left) r.bytes
-      (moved (max_length * d.gone) (max_length * d.left) a.bytes);
-  copies = set_if d.kept d.left 0 (more_if d.heard d.entry (moved d.gone d.left a.copies));
-}
-
--- arrays that hold 64 entries
-pub record Whole (a : Columns) : Type 0 where
-  pub times : length a.times ≡ capacity
-  pub lens : length a.lens ≡ capacity
-  pub bytes : length a.bytes ≡ max_length * capacity
-  pub copies : length a.copies ≡ capacity
-
--- what is decided can be carried out, and does what `admit` does with the columns
-pub record Decides (fit : Bool) (a : Columns) (s : Summary) (r : Reception) (d : Decision) : Type 0 where
-  pub few : d.gone + d.left ≤ capacity
-  pub room : d.kept ≡ true → (d.left < capacity) × (length r.bytes ≤ max_length)
-  pub inside : d.heard ≡ true → d.entry < capacity
-  pub admits : Whole a → Admits fit a s r (changed d r a) (record { summary = d.summary; answer = d.answer })
+-- what was changed, column by column
+pub record Changes (gone left : ℕ) (heard : Option ℕ) (kept : Bool) (r : Reception) (a a' : Columns) : Type 0 where
+  pub times : Becomes capacity a.times a'.times (columns_changed gone left heard kept r a).times
+  pub lens : Becomes capacity a.lens a'.lens (columns_changed gone left heard kept r a).lens
+  pub bytes : Becomes (max_length * capacity) a.bytes a'.bytes (columns_changed gone left heard kept r a).bytes
+  pub copies : Becomes capacity a.copies a'.copies (columns_changed gone left heard kept r a).copies

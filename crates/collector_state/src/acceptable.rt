@@ -4,11 +4,10 @@ ghost use Rattle.radio_erp1.specs.Subtelegram.{min_length, max_length};
 ghost use Rattle.collector_model.specs.View.{capacity};
 ghost use Rattle.collector_model.specs.Acceptable.{is_summed, acceptable};
 ghost use Rattle.collector_state.specs.Collector.{Columns, columns, entries_at, view_in};
-ghost use Rattle.collector_state.specs.Private.{are_timely, are_telegrams, is_repeated_at, shown_at, marks, mark_of, MarkedAs, Repeated};
+ghost use Rattle.collector_state.specs.Private.{are_timely, are_telegrams, is_repeated_at, shown_at, marks, mark_of, mark_in, Repeated};
 
 use crate::{Collector, Summary, entries};
 use collector_model::Totals;
-use radio_erp1::Checked;
 
 // The size of the table of marks.
 const MARKS: usize = 1024;
@@ -45,9 +44,8 @@ fn are_timely(times: &[u64], count: usize, latest: u64) -> bool
     requires { count ≤ length times.now }
     ensures { (a : Columns) → a.times ≡ times.now → result ≡ are_timely latest (entries_at a count) }
 {
-    let mut earliest = entries::since(latest, Collector::MATURITY_MS);
-    for i in 0..count {
-        let time = times[i];
+    let mut earliest = latest.saturating_sub(Collector::MATURITY_MS);
+    for &time in &times[..count] {
         if time < earliest {
             return false;
         }
@@ -69,45 +67,44 @@ fn are_telegrams<'a>(
         (entries_at (columns times.now lens.now bytes.now copies) count) }
 {
     let mut seen = no_marks();
+    // Kept (loop): the index is handed on, to search the entries before it.
     for i in 0..count {
-        let mark = mark_at(lens, bytes, i);
-        if MARKS <= mark {
+        let Some(mark) = mark_at(lens, bytes, i) else {
             return false;
-        }
+        };
         if is_repeated(times, lens, bytes, i, seen[mark]) {
             return false;
         }
-        seen[mark] = 1;
+        seen[mark] = true;
     }
     true
 }
 
 // No mark seen.
-fn no_marks() -> [u8; MARKS]
+fn no_marks() -> [bool; MARKS]
     ensures { length result ≡ marks }
 {
-    [0u8; MARKS]
+    [false; MARKS]
 }
 
-// The mark of entry `i`, or MARKS if it is not valid.
+// The mark of entry `i`, if it is valid.
 fn mark_at<'a>(
     lens: &'a [u8; Collector::CAPACITY],
     bytes: &'a [u8; Collector::CAPACITY * Collector::MAX_LEN],
     i: usize,
-) -> usize
+) -> Option<usize>
     requires { i < capacity }
-    ensures { MarkedAs (shown_at lens.now bytes.now i) result }
+    ensures { result ≡ mark_in (shown_at lens.now bytes.now i) }
 {
-    let len = base_numbers::usize_of_byte(lens[i]);
+    let len = usize::from(lens[i]);
     if Collector::MAX_LEN < len {
-        return MARKS;
+        return None;
     }
     let telegram = entries::telegram(bytes, i, len);
-    let checked = radio_erp1::check(telegram);
-    if let Checked::Refused(_) = checked {
-        return MARKS;
+    if radio_erp1::check(telegram).is_err() {
+        return None;
     }
-    mark(telegram)
+    Some(mark(telegram))
 }
 
 // A number below MARKS that is the same for the same telegram: from the last two bytes of TXID and the first byte after RORG.
@@ -116,9 +113,9 @@ fn mark(telegram: &[u8]) -> usize
     ensures { (result ≡ mark_of telegram.now) × (result < marks) }
 {
     let n = telegram.len();
-    let last = base_numbers::usize_of_byte(telegram[n - 3]);
-    let other = base_numbers::usize_of_byte(telegram[n - 4]);
-    let first = base_numbers::usize_of_byte(telegram[1]);
+    let last = usize::from(telegram[n - 3]);
+    let other = usize::from(telegram[n - 4]);
+    let first = usize::from(telegram[1]);
     (4 * last + 67 * other + 29 * first) % MARKS
 }
 
@@ -128,18 +125,18 @@ fn is_repeated<'a>(
     lens: &'a [u8; Collector::CAPACITY],
     bytes: &'a [u8; Collector::CAPACITY * Collector::MAX_LEN],
     i: usize,
-    seen: u8,
+    seen: bool,
 ) -> bool
     requires { (i < capacity) × (min_length ≤ get_or lens.now i 0) × (get_or lens.now i 0 ≤ max_length) }
     ensures { (copies : List ℕ) → Repeated seen
         (is_repeated_at (columns times.now lens.now bytes.now copies) i) result }
 {
-    if seen == 0 {
+    if !seen {
         return false;
     }
-    let len = base_numbers::usize_of_byte(lens[i]);
+    let len = usize::from(lens[i]);
     let telegram = entries::telegram(bytes, i, len);
-    entries::find(times, lens, bytes, 0, i, telegram, times[i]) < i
+    entries::find(times, lens, bytes, 0, i, telegram, times[i]).is_some()
 }
 
 // Whether received is the sum of the others. No sum here can wrap.

@@ -7,17 +7,18 @@ pub(crate) mod entries;
 pub mod merging;
 
 ghost use Rattle.std.specs.Prelude.{◌≡◌};
+ghost use Rattle.collector_model.specs.Acceptable.{acceptable};
 ghost use Rattle.collector_model.specs.Heard.{copies_of};
-ghost use Rattle.base_refusal.specs.Number.{number_of};
-ghost use Rattle.collector_state.specs.Collector.{view_of, IsFresh, Takes};
+ghost use Rattle.collector_state.specs.Collector.{columns_held, columns_lent, view_in, view_of, IsFresh, Takes};
 ghost use Rattle.collector_state.specs.Heard.{heard_of};
 
 use acceptable::is_acceptable;
-use base_refusal::{Outcome, Refusal};
+use base_refusal::Refusal;
 use collector_model::{Answer, Totals};
 
 // The state, in flat arrays. Of the first `summary.count` entries, in opening order, entry i has times[i], lens[i], copies[i] and the 21 bytes from
 // 21 i on, of which the first lens[i] are those received. All other elements are unspecified.
+// Kept (buffer): no heap; C lends the four arrays, and a caller may save them.
 #[derive(Clone, Copy)]
 pub struct Collector {
     pub times: [u64; Collector::CAPACITY],
@@ -35,18 +36,31 @@ pub struct Summary {
     pub totals: Totals,
 }
 
+// The state, with its four arrays lent to be read.
+#[derive(Clone, Copy)]
+pub struct Held<'a> {
+    pub times: &'a [u64; Collector::CAPACITY],
+    pub lens: &'a [u8; Collector::CAPACITY],
+    pub bytes: &'a [u8; Collector::CAPACITY * Collector::MAX_LEN],
+    pub copies: &'a [u16; Collector::CAPACITY],
+    pub summary: Summary,
+}
+
+// The same, lent to be changed: no array is copied.
+#[derive(Drop)]
+pub struct Lent<'a> {
+    pub times: &'a mut [u64; Collector::CAPACITY],
+    pub lens: &'a mut [u8; Collector::CAPACITY],
+    pub bytes: &'a mut [u8; Collector::CAPACITY * Collector::MAX_LEN],
+    pub copies: &'a mut [u16; Collector::CAPACITY],
+    pub summary: Summary,
+}
+
 // The next state and the answer.
 #[derive(Clone, Copy)]
 pub struct Taken {
     pub next: Collector,
     pub answer: Answer,
-}
-
-// How often an open telegram was received again; 0 with a refusal.
-#[derive(Clone, Copy)]
-pub struct Heard {
-    pub answer: Outcome,
-    pub copies: u16,
 }
 
 impl Collector {
@@ -86,61 +100,60 @@ impl Collector {
     }
 
     // Takes one reception: its bytes and the time when they were complete, in ms. If the state is not acceptable, the answer is 11 and nothing
-    // changes. Only one field of a struct can be lent as mutable at a time. So the changes are decided first, and then each array is changed in
-    // place. There is one exit, so only the state is copied, once in and once out.
+    // changes. The arrays are lent and changed in place, so only the state is copied, once in and once out.
     pub fn take(mut self, bytes: &[u8], time: u64) -> Taken
-        ensures { Takes self (record { bytes = bytes.entry.now; time = time }) result }
+        ensures { Takes self (record { bytes = bytes.now; time = time }) result }
     {
-        let old = self.summary;
-        let fit = is_acceptable(&self.times, &self.lens, &self.bytes, old);
-        let decided = merging::decide(fit, &self.times, &self.lens, &self.bytes, old, bytes, time);
-        let gone = decided.gone;
-        let left = decided.left;
-        let kept = decided.kept;
-        entries::change_times(&mut self.times, gone, left, kept, time);
-        entries::change_lens(&mut self.lens, gone, left, kept, bytes);
-        entries::change_bytes(&mut self.bytes, gone, left, kept, bytes);
-        entries::change_copies(
-            &mut self.copies,
-            gone,
-            left,
-            decided.heard,
-            decided.entry,
-            kept,
-        );
-        let next = decided.summary;
-        let answer = decided.answer;
-        self.summary = next;
-        Taken {
-            next: self,
-            answer: answer,
-        }
+        let summary = self.summary;
+        let fit = is_acceptable(&self.times, &self.lens, &self.bytes, summary);
+        let mut state = Lent {
+            times: &mut self.times,
+            lens: &mut self.lens,
+            bytes: &mut self.bytes,
+            copies: &mut self.copies,
+            summary,
+        };
+        let answer = state.admit(fit, bytes, time);
+        self.summary = state.summary;
+        Taken { next: self, answer }
     }
 
     // How often the telegram of entry `entry`, counted from 0 in opening order, was received again. 11 if the state is not acceptable, 10 if the
     // entry is not open.
-    pub fn copies(self, entry: usize) -> Heard
+    pub fn copies(self, entry: usize) -> Result<u16, Refusal>
         ensures { heard_of result ≡ copies_of (view_of self) entry }
     {
         let summary = self.summary;
         if !is_acceptable(&self.times, &self.lens, &self.bytes, summary) {
-            return not_heard(Refusal::NotAccepted);
+            return Err(Refusal::NotAccepted);
         }
         if summary.count <= entry {
-            return not_heard(Refusal::Argument);
+            return Err(Refusal::Argument);
         }
-        Heard {
-            answer: Outcome::Done,
-            copies: self.copies[entry],
-        }
+        Ok(self.copies[entry])
     }
 }
 
-fn not_heard(why: Refusal) -> Heard
-    ensures { heard_of result ≡ record { number = number_of why; copies = 0 } }
-{
-    Heard {
-        answer: Outcome::Refused(why),
-        copies: 0,
+impl<'a> Held<'a> {
+    // Whether the state is acceptable.
+    pub fn is_acceptable(self) -> bool
+        ensures { result ≡ acceptable (view_in (columns_held self.entry) self.entry.summary) }
+    {
+        is_acceptable(self.times, self.lens, self.bytes, self.summary)
+    }
+}
+
+impl<'a> Lent<'a> {
+    // The same state, to be read.
+    pub fn held(&self) -> Held
+        ensures { (columns_held result ≡ columns_lent self.now) × (result.summary ≡ self.now.summary) }
+    {
+        Held {
+            times: self.times,
+            lens: self.lens,
+            bytes: self.bytes,
+            copies: self.copies,
+            summary: self.summary,
+        }
     }
 }

@@ -1,117 +1,76 @@
 // One reception (document 01, "Merging"): its answer, the counts, and what is sent if it is kept.
-ghost use Rattle.std.specs.Prelude.{◌≡◌, true, cond, ◌&&◌, List, ℕ, ◌≤◌, ◌<◌, leb, eqb, length, drop};
-ghost use Rattle.radio_erp1.specs.Subtelegram.{min_length, max_length, checked_number};
+ghost use Rattle.std.specs.Prelude.{◌≡◌, ◌&&◌, List, ℕ, ◌≤◌, ◌<◌, leb, eqb, length, drop};
+ghost use Rattle.base_refusal.specs.Number.{number_of, outcome_number};
+ghost use Rattle.radio_erp1.specs.Subtelegram.{min_length, max_length};
 ghost use Rattle.radio_telegram.specs.Output.{written};
-ghost use Rattle.collector_model.specs.Answer.{shown_of, shown_number, is_kept, is_copy, is_loose, is_damaged, is_late, is_received};
+ghost use Rattle.collector_model.specs.Answer.{Refused, shown_of, is_kept};
 ghost use Rattle.collector_model.specs.View.{capacity};
-ghost use Rattle.collector_model.specs.declared.Answer.TheVariants as answer;
 ghost use Rattle.collector_model.specs.Acceptable.{is_summed};
-ghost use Rattle.collector_model.specs.Step.{max_count, plus_if, tally};
-ghost use Rattle.collector_state.specs.Collector.{columns, entries_at};
+ghost use Rattle.collector_model.specs.Step.{tally};
+ghost use Rattle.collector_state.specs.Collector.{columns, columns_lent, entries_at, SameArrays};
 ghost use Rattle.collector_state.specs.Admission.{relayed_for, reception_check, Admits};
-ghost use Rattle.collector_state.specs.Private.{JudgedBy, judged_as, judged_entry, Countable, counted_only, Decides, unchanged};
+ghost use Rattle.collector_state.specs.Private.{JudgedBy, judged_as, judged_heard, Countable, counted_only};
 
-use crate::{Collector, Summary, acceptable, entries};
+use crate::{Collector, Lent, Summary, acceptable, entries};
 use base_refusal::Refusal;
 use collector_model::{Answer, Totals};
-use radio_erp1::Checked;
 
-// The summary after a reception, and the answer.
-#[derive(Clone, Copy)]
-pub struct Admitted {
-    pub summary: Summary,
-    pub answer: Answer,
-}
-
-// Takes one reception, with a state that is changed in place: its four arrays are lent. `fit` is the result of the test of the state, so a run of
-// receptions makes it only once. If it is false, if more than 64 entries are counted or if the totals do not add up, the answer is 11 and nothing is
-// changed. With every refusal the four arrays are unchanged, whatever `fit` is.
-pub fn admit<'a>(
-    fit: bool,
-    times: &'a mut [u64; Collector::CAPACITY],
-    lens: &'a mut [u8; Collector::CAPACITY],
-    bytes: &'a mut [u8; Collector::CAPACITY * Collector::MAX_LEN],
-    copies: &'a mut [u16; Collector::CAPACITY],
-    summary: Summary,
-    received: &'a [u8],
-    time: u64,
-) -> Admitted
-    ensures { Admits fit
-        (columns times.old lens.old bytes.entry.now copies.old) summary
-        (record { bytes = received.now; time = time })
-        (columns times.new lens.new bytes.exit.now copies.new) result }
-{
-    let count = summary.count;
-    let totals = summary.totals;
-    if !is_safe(fit, count, totals) {
-        return refused(summary, Refusal::NotAccepted);
-    }
-    if totals.received == u64::MAX {
-        return refused(summary, Refusal::Full);
-    }
-    let checked = check_reception(summary.latest, received, time);
-    if let Checked::Refused(why) = checked {
-        return refused(only_counted(summary, why), why);
-    }
-    let gone = entries::expired(times, count, time);
-    let left = count - gone;
-    let judged = classify(times, lens, bytes, gone, count, received, time);
-    match judged {
-        Judged::Kept => {
-            entries::change(
-                times, lens, bytes, copies, gone, left, false, 0, true, received, time,
-            );
-            now_open(left + 1, time, counted(totals, Answer::Kept), Answer::Kept)
+impl<'a> Lent<'a> {
+    // Takes one reception, with a state that is changed in place. `fit` is the result of the test of the state, so a run of receptions makes it only
+    // once. If it is false, if more than 64 entries are counted or if the totals do not add up, the answer is 11 and nothing is changed. With every
+    // refusal the four arrays are unchanged, whatever `fit` is.
+    // Kept (step): `fit` is what a test said of the state. The answer depends on it, and it chooses no step.
+    pub fn admit(&mut self, fit: bool, received: &[u8], time: u64) -> Answer
+        ensures admits { Admits fit (columns_lent self.old) self.old.summary
+            (record { bytes = received.now; time = time }) (columns_lent self.new)
+            (record { summary = self.new.summary; answer = result }) }
+        ensures same_loans { SameArrays self.old self.new }
+    {
+        let summary = self.summary;
+        let count = summary.count;
+        let totals = summary.totals;
+        if !is_safe(fit, count, totals) {
+            return Answer::Refused(Refusal::NotAccepted);
         }
-        Judged::Copy(entry) => {
-            entries::change(
-                times, lens, bytes, copies, gone, left, true, entry, false, received, time,
-            );
-            now_open(left, time, counted(totals, Answer::Copy), Answer::Copy)
+        if totals.received == u64::MAX {
+            return Answer::Refused(Refusal::Full);
         }
-        Judged::Loose => {
-            entries::change(
-                times, lens, bytes, copies, gone, left, false, 0, false, received, time,
-            );
-            now_open(left, time, counted(totals, Answer::Loose), Answer::Loose)
+        if let Err(why) = check_reception(summary.latest, received, time) {
+            self.summary = only_counted(summary, why);
+            return Answer::Refused(why);
+        }
+        let gone = entries::expired(self.times, count, time);
+        let left = count - gone;
+        match classify(
+            self.times, self.lens, self.bytes, gone, count, received, time,
+        ) {
+            Judged::Kept => {
+                self.change(gone, left, None, true, received, time);
+                self.summary = now_open(left + 1, time, counted(totals, Answer::Kept));
+                Answer::Kept
+            }
+            Judged::Copy(entry) => {
+                self.change(gone, left, Some(entry), false, received, time);
+                self.summary = now_open(left, time, counted(totals, Answer::Copy));
+                Answer::Copy
+            }
+            Judged::Loose => {
+                self.change(gone, left, None, false, received, time);
+                self.summary = now_open(left, time, counted(totals, Answer::Loose));
+                Answer::Loose
+            }
         }
     }
 }
 
-// A refusal: no entry is changed.
-fn refused(summary: Summary, why: Refusal) -> Admitted
-    ensures { result ≡ record { summary = summary; answer = answer.Refused why } }
+fn now_open(count: usize, latest: u64, totals: Totals) -> Summary
+    ensures { result ≡ record { count = count; latest = latest; totals = totals } }
 {
-    Admitted {
-        summary: summary,
-        answer: Answer::Refused(why),
+    Summary {
+        count,
+        latest,
+        totals,
     }
-}
-
-fn now_open(count: usize, latest: u64, totals: Totals, answer: Answer) -> Admitted
-    ensures { result ≡ record { summary = record { count = count; latest = latest; totals = totals }; answer = answer } }
-{
-    Admitted {
-        summary: Summary {
-            count: count,
-            latest: latest,
-            totals: totals,
-        },
-        answer: answer,
-    }
-}
-
-// What one reception changes: the first `gone` entries are dropped, and `left` stay. If `heard`, entry `entry` of these was received again. If
-// `kept`, the reception is put after them. `summary` is the rest of the new state.
-#[derive(Clone, Copy)]
-pub(crate) struct Decision {
-    pub(crate) gone: usize,
-    pub(crate) left: usize,
-    pub(crate) heard: bool,
-    pub(crate) entry: usize,
-    pub(crate) kept: bool,
-    pub(crate) summary: Summary,
-    pub(crate) answer: Answer,
 }
 
 // What a reception that passed the tests is; for a copy, the entry that it is a copy of.
@@ -120,53 +79,6 @@ enum Judged {
     Kept,
     Copy(usize),
     Loose,
-}
-
-// Decides on one reception before anything is changed, so that each array can then be changed by itself.
-pub(crate) fn decide<'a>(
-    fit: bool,
-    times: &'a [u64; Collector::CAPACITY],
-    lens: &'a [u8; Collector::CAPACITY],
-    bytes: &'a [u8; Collector::CAPACITY * Collector::MAX_LEN],
-    summary: Summary,
-    received: &'a [u8],
-    time: u64,
-) -> Decision
-    ensures { (copies : List ℕ) → Decides fit
-        (columns times.now lens.now bytes.entry.now copies) summary
-        (record { bytes = received.now; time = time }) result }
-{
-    let count = summary.count;
-    let totals = summary.totals;
-    if !is_safe(fit, count, totals) {
-        return nothing(summary, Refusal::NotAccepted);
-    }
-    if totals.received == u64::MAX {
-        return nothing(summary, Refusal::Full);
-    }
-    let checked = check_reception(summary.latest, received, time);
-    if let Checked::Refused(why) = checked {
-        return nothing(only_counted(summary, why), why);
-    }
-    let gone = entries::expired(times, count, time);
-    let judged = classify(times, lens, bytes, gone, count, received, time);
-    let answer = answer_of(judged);
-    let left = count - gone;
-    let kept = is_kept(answer);
-    let after = Summary {
-        count: count_after(kept, left),
-        latest: time,
-        totals: counted(totals, answer),
-    };
-    Decision {
-        gone: gone,
-        left: left,
-        heard: is_copy(answer),
-        entry: entry_of(judged),
-        kept: kept,
-        summary: after,
-        answer: answer,
-    }
 }
 
 // Writes what a repeater set to `setting` sends for a reception with this answer to the front of `out`, and returns how many bytes it is: 0 if it was
@@ -193,33 +105,15 @@ fn is_safe(fit: bool, count: usize, totals: Totals) -> bool
     fit & ((count <= Collector::CAPACITY) & acceptable::is_summed(totals))
 }
 
-// A refusal: no entry is changed.
-fn nothing(summary: Summary, why: Refusal) -> Decision
-    ensures { result ≡ unchanged summary why }
-{
-    Decision {
-        gone: 0,
-        left: 0,
-        heard: false,
-        entry: 0,
-        kept: false,
-        summary: summary,
-        answer: Answer::Refused(why),
-    }
-}
-
 // The refusal of a reception before the search in the open telegrams.
-fn check_reception(latest: u64, bytes: &[u8], time: u64) -> Checked
-    ensures { checked_number result ≡ reception_check latest (record { bytes = bytes.entry.now; time = time }) }
+fn check_reception(latest: u64, bytes: &[u8], time: u64) -> Result<(), Refusal>
+    ensures { outcome_number result ≡ reception_check latest (record { bytes = bytes.now; time = time }) }
 {
-    let checked = radio_erp1::check(bytes);
-    if let Checked::Refused(why) = checked {
-        return Checked::Refused(why);
-    }
+    radio_erp1::check(bytes)?;
     if time < latest {
-        return Checked::Refused(Refusal::Late);
+        return Err(Refusal::Late);
     }
-    Checked::Valid
+    Ok(())
 }
 
 // The summary after a reception that was refused: it is only counted.
@@ -228,13 +122,13 @@ fn only_counted(summary: Summary, why: Refusal) -> Summary
     ensures { result ≡ counted_only summary why }
 {
     Summary {
-        count: summary.count,
-        latest: summary.latest,
         totals: counted(summary.totals, Answer::Refused(why)),
+        ..summary
     }
 }
 
 // What a valid reception is, if of `count` telegrams the first `gone` are no longer open. Numbers of copies are not read.
+// Kept (group): it reads three of the five fields of a `Held`, as `find` does.
 fn classify<'a>(
     times: &'a [u64; Collector::CAPACITY],
     lens: &'a [u8; Collector::CAPACITY],
@@ -247,38 +141,17 @@ fn classify<'a>(
     requires { (gone ≤ count) × (count ≤ capacity)
         × (min_length ≤ length received.now) × (length received.now ≤ max_length) }
     ensures { (copies : List ℕ) → JudgedBy
-        (drop gone (entries_at (columns times.now lens.now bytes.entry.now copies) count))
-        (record { bytes = received.now; time = time }) (judged_as result) (judged_entry result) }
+        (drop gone (entries_at (columns times.now lens.now bytes.now copies) count))
+        (record { bytes = received.now; time = time }) (judged_as result) (judged_heard result) }
 {
     let left = count - gone;
-    let entry = entries::find(times, lens, bytes, gone, count, received, time);
-    if entry < left {
+    if let Some(entry) = entries::find(times, lens, bytes, gone, count, received, time) {
         return Judged::Copy(entry);
     }
     if Collector::CAPACITY <= left {
         return Judged::Loose;
     }
     Judged::Kept
-}
-
-fn answer_of(judged: Judged) -> Answer
-    ensures { shown_of result ≡ judged_as judged }
-{
-    match judged {
-        Judged::Kept => Answer::Kept,
-        Judged::Copy(_) => Answer::Copy,
-        Judged::Loose => Answer::Loose,
-    }
-}
-
-fn entry_of(judged: Judged) -> usize
-    ensures { result ≡ judged_entry judged }
-{
-    match judged {
-        Judged::Kept => 0,
-        Judged::Copy(entry) => entry,
-        Judged::Loose => 0,
-    }
 }
 
 // The totals after one more answer. It matches on the answer, so the compiler can use what it knows of the answer at the call.
@@ -290,135 +163,47 @@ fn counted(n: Totals, answer: Answer) -> Totals
         Answer::Kept => Totals {
             received: n.received + 1,
             kept: n.kept + 1,
-            copies: n.copies,
-            loose: n.loose,
-            damaged: n.damaged,
-            late: n.late,
+            ..n
         },
         Answer::Copy => Totals {
             received: n.received + 1,
-            kept: n.kept,
             copies: n.copies + 1,
-            loose: n.loose,
-            damaged: n.damaged,
-            late: n.late,
+            ..n
         },
         Answer::Loose => Totals {
             received: n.received + 1,
-            kept: n.kept,
-            copies: n.copies,
             loose: n.loose + 1,
-            damaged: n.damaged,
-            late: n.late,
+            ..n
         },
-        Answer::Refused(_) => counted_any(n, answer),
+        Answer::Refused(why) => counted_refusal(n, why),
     }
 }
 
-// The same, one total at a time.
-fn counted_any(n: Totals, answer: Answer) -> Totals
+fn counted_refusal(n: Totals, why: Refusal) -> Totals
     requires { Countable n }
-    ensures { result ≡ tally (shown_of answer) n }
+    ensures { result ≡ tally (Refused (number_of why)) n }
 {
-    Totals {
-        received: one_more(is_received(answer), n.received),
-        kept: one_more(is_kept(answer), n.kept),
-        copies: one_more(is_copy(answer), n.copies),
-        loose: one_more(is_loose(answer), n.loose),
-        damaged: one_more(is_damaged(answer), n.damaged),
-        late: one_more(is_late(answer), n.late),
+    match why {
+        Refusal::Full | Refusal::NotAccepted => n,
+        Refusal::Length | Refusal::Sum | Refusal::Crc | Refusal::Nested => Totals {
+            received: n.received + 1,
+            damaged: n.damaged + 1,
+            ..n
+        },
+        Refusal::Late => Totals {
+            received: n.received + 1,
+            late: n.late + 1,
+            ..n
+        },
+        _ => Totals {
+            received: n.received + 1,
+            ..n
+        },
     }
 }
-
-// n, or one more if `counts` says so.
-fn one_more(counts: bool, n: u64) -> u64
-    requires { counts ≡ true → n < max_count }
-    ensures { result ≡ plus_if counts n }
-{
-    if !counts {
-        return n;
-    }
-    n + 1
-}
-
-// How many telegrams are open after a reception.
-fn count_after(kept: bool, left: usize) -> usize
-    requires { kept ≡ true → left < capacity }
-    ensures { result ≡ plus_if kept left }
-{
-    if !kept {
-        return left;
-    }
-    left + 1
-}
-
-// ---- tests of an answer
 
 fn is_kept(answer: Answer) -> bool
     ensures { result ≡ is_kept (shown_of answer) }
 {
-    match answer {
-        Answer::Kept => true,
-        Answer::Copy => false,
-        Answer::Loose => false,
-        Answer::Refused(_) => false,
-    }
-}
-
-fn is_copy(answer: Answer) -> bool
-    ensures { result ≡ is_copy (shown_of answer) }
-{
-    match answer {
-        Answer::Kept => false,
-        Answer::Copy => true,
-        Answer::Loose => false,
-        Answer::Refused(_) => false,
-    }
-}
-
-fn is_loose(answer: Answer) -> bool
-    ensures { result ≡ is_loose (shown_of answer) }
-{
-    match answer {
-        Answer::Kept => false,
-        Answer::Copy => false,
-        Answer::Loose => true,
-        Answer::Refused(_) => false,
-    }
-}
-
-// The number that a caller sees.
-fn number_of(answer: Answer) -> u8
-    ensures { result ≡ shown_number (shown_of answer) }
-{
-    match answer {
-        Answer::Kept => 0,
-        Answer::Copy => 0,
-        Answer::Loose => 0,
-        Answer::Refused(why) => base_refusal::number(why),
-    }
-}
-
-fn is_damaged(answer: Answer) -> bool
-    ensures { result ≡ is_damaged (shown_of answer) }
-{
-    let number = number_of(answer);
-    (number == base_refusal::number(Refusal::Length))
-        | ((number == base_refusal::number(Refusal::Sum))
-            | ((number == base_refusal::number(Refusal::Crc))
-                | (number == base_refusal::number(Refusal::Nested))))
-}
-
-fn is_late(answer: Answer) -> bool
-    ensures { result ≡ is_late (shown_of answer) }
-{
-    number_of(answer) == base_refusal::number(Refusal::Late)
-}
-
-fn is_received(answer: Answer) -> bool
-    ensures { result ≡ is_received (shown_of answer) }
-{
-    let number = number_of(answer);
-    !((number == base_refusal::number(Refusal::Full))
-        | (number == base_refusal::number(Refusal::NotAccepted)))
+    matches!(answer, Answer::Kept)
 }

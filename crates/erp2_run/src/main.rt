@@ -2,16 +2,21 @@
 // of the second program (tests/reference/README.md has the format).
 #![tactic(auto)]
 
-ghost use Rattle.std.specs.Prelude.{◌≡◌, ◌≤◌, length};
+ghost use Rattle.std.specs.Prelude.{◌≡◌, length};
 
-use radio_erp1::Checked;
-use radio_erp2_model::{Destination, Extension, Header, MAX_DATA, MAX_OPTIONAL, Subtype, Telegram};
-use radio_telegram::frame::Built;
+use base_refusal::Refusal;
+use radio_erp2_model::{Extension, Header, MAX_DATA, MAX_OPTIONAL, Telegram};
 use std::io;
 use std::io::{BufWriter, Read, Write};
 
 // The largest number of bytes to read in a record, and of an output.
 const MOST: usize = 300;
+
+// What is printed where there is no extended header.
+const NO_EXTENSION: Extension = Extension {
+    hops: 0,
+    announced: 0,
+};
 
 fn main(rt: HostRuntime) -> io::Result<()> {
     let mut to = BufWriter::new(rt.alloc(), io::writer(&rt))?;
@@ -29,26 +34,14 @@ fn records<R: Read, W: Write>(input: &mut R, to: &mut W, most: u64) -> io::Resul
     Ok(())
 }
 
-// A record; `more` is false after the last one.
-#[derive(Clone, Copy)]
-struct Input {
-    more: bool,
-    bytes: [u8; test_io::LONG],
-}
-
 // Handles one record, if there is one more.
 fn record<R: Read, W: Write>(input: &mut R, to: &mut W) -> io::Result<bool> {
-    let next = next(input)?;
-    if next.more {
-        answer(to, &next.bytes)?;
-    }
-    Ok(next.more)
-}
-
-fn next<R: Read>(input: &mut R) -> io::Result<Input> {
     let mut bytes = [0u8; test_io::LONG];
     let more = test_io::next_long_record(input, &mut bytes)?;
-    Ok(Input { more, bytes })
+    if more {
+        answer(to, &bytes)?;
+    }
+    Ok(more)
 }
 
 fn answer<W: Write>(to: &mut W, r: &[u8]) -> io::Result<()>
@@ -65,20 +58,25 @@ fn answer<W: Write>(to: &mut W, r: &[u8]) -> io::Result<()>
 fn read<W: Write>(to: &mut W, r: &[u8]) -> io::Result<()>
     requires { length r.now ≡ 320 }
 {
-    let n = least(pair(r[1], r[2]), MOST);
-    let reading = radio_erp2::read(&r[8..8 + n]);
-    let t = reading.telegram;
-    let checked = reading.checked;
+    let n = pair(r[1], r[2]).min(MOST);
     test_io::text(to, b"READ ")?;
-    test_io::decimal(to, checked_number(checked))?;
-    show(to, t)
+    match radio_erp2::read(&r[8..8 + n]) {
+        Ok(t) => {
+            test_io::text(to, b"0")?;
+            show(to, t)
+        }
+        Err(why) => {
+            test_io::decimal(to, u64::from(base_refusal::number(why)))?;
+            show(to, nothing())
+        }
+    }
 }
 
 // Builds into an output of the capacity in the record.
 fn build<W: Write>(to: &mut W, r: &[u8]) -> io::Result<()>
     requires { length r.now ≡ 320 }
 {
-    let capacity = least(pair(r[1], r[2]), MOST);
+    let capacity = pair(r[1], r[2]).min(MOST);
     let mut out = [0xEEu8; MOST];
     build_into(to, ordered(r), &mut out[0..capacity])
 }
@@ -94,9 +92,6 @@ fn build_into<W: Write>(to: &mut W, t: Telegram, out: &mut [u8]) -> io::Result<(
 fn ordered(r: &[u8]) -> Telegram
     requires { length r.now ≡ 320 }
 {
-    let payload = payload_of(&r[42..292]);
-    let optional = optional_of(&r[27..42]);
-    let originator = block_layout::read_number(&r[12..20]);
     Telegram {
         short: r[3],
         header: Header {
@@ -104,65 +99,49 @@ fn ordered(r: &[u8]) -> Telegram
             extended: r[5] == 1,
             kind: r[6],
         },
-        extension: Extension {
-            present: r[7] == 1,
+        extension: (r[7] == 1).then_some(Extension {
             hops: r[8],
             announced: r[9],
-        },
-        subtype: Subtype {
-            present: r[10] == 1,
-            value: r[11],
-        },
-        originator: originator,
-        destination: Destination {
-            present: r[20] == 1,
-            id: id(r[21], r[22], r[23], r[24]),
-        },
-        payload: payload,
+        }),
+        subtype: (r[10] == 1).then_some(r[11]),
+        originator: block_layout::read_number(&r[12..20]),
+        destination: (r[20] == 1).then_some(u32::from_be_bytes([r[21], r[22], r[23], r[24]])),
+        payload: r[42..292].try_into().unwrap(),
         len: pair(r[25], r[26]),
-        optional: optional,
+        optional: r[27..42].try_into().unwrap(),
     }
 }
 
-// Four bytes, the highest first.
-fn id(a: u8, b: u8, c: u8, d: u8) -> u32 {
-    a as u32 * 16_777_216 + b as u32 * 65_536 + c as u32 * 256 + d as u32
-}
-
-fn payload_of(part: &[u8]) -> [u8; MAX_DATA]
-    requires { length part.now ≡ 250 }
-{
-    let mut bytes = [0u8; MAX_DATA];
-    bytes.copy_from_slice(part);
-    bytes
-}
-
-fn optional_of(part: &[u8]) -> [u8; MAX_OPTIONAL]
-    requires { length part.now ≡ 15 }
-{
-    let mut bytes = [0u8; MAX_OPTIONAL];
-    bytes.copy_from_slice(part);
-    bytes
+// What is printed beside a refusal: a telegram that is all zero.
+fn nothing() -> Telegram {
+    Telegram {
+        short: 0,
+        header: Header {
+            control: 0,
+            extended: false,
+            kind: 0,
+        },
+        extension: None,
+        subtype: None,
+        originator: 0,
+        destination: None,
+        payload: [0u8; MAX_DATA],
+        len: 0,
+        optional: [0u8; MAX_OPTIONAL],
+    }
 }
 
 // ---- what is printed for an answer
 
-fn checked_number(checked: Checked) -> u64 {
-    match checked {
-        Checked::Valid => 0,
-        Checked::Refused(why) => base_refusal::number(why) as u64,
-    }
-}
-
 // The number, the length and all of the output.
-fn written<W: Write>(to: &mut W, built: Built, out: &[u8]) -> io::Result<()> {
+fn written<W: Write>(to: &mut W, built: Result<usize, Refusal>, out: &[u8]) -> io::Result<()> {
     match built {
-        Built::Done(n) => {
+        Ok(n) => {
             test_io::text(to, b"0 ")?;
             test_io::decimal(to, n as u64)?;
         }
-        Built::Refused(why) => {
-            test_io::decimal(to, base_refusal::number(why) as u64)?;
+        Err(why) => {
+            test_io::decimal(to, u64::from(base_refusal::number(why)))?;
             test_io::text(to, b" 0")?;
         }
     }
@@ -173,8 +152,8 @@ fn written<W: Write>(to: &mut W, built: Built, out: &[u8]) -> io::Result<()> {
 fn show<W: Write>(to: &mut W, t: Telegram) -> io::Result<()> {
     show_head(to, t.short, t.header, t.extension, t.subtype)?;
     identity(to, t.originator)?;
-    flag(to, t.destination.present)?;
-    destination(to, t.destination.id as u64)?;
+    flag(to, t.destination.is_some())?;
+    destination(to, u64::from(t.destination.unwrap_or(0)))?;
     data(to, t)?;
     optional(to, t)
 }
@@ -183,24 +162,25 @@ fn show_head<W: Write>(
     to: &mut W,
     short: u8,
     header: Header,
-    extension: Extension,
-    subtype: Subtype,
+    extension: Option<Extension>,
+    subtype: Option<u8>,
 ) -> io::Result<()> {
     small(to, short)?;
     small(to, header.control)?;
     flag(to, header.extended)?;
     small(to, header.kind)?;
-    flag(to, extension.present)?;
-    small(to, extension.hops)?;
-    small(to, extension.announced)?;
-    flag(to, subtype.present)?;
+    flag(to, extension.is_some())?;
+    let e = extension.unwrap_or(NO_EXTENSION);
+    small(to, e.hops)?;
+    small(to, e.announced)?;
+    flag(to, subtype.is_some())?;
     test_io::text(to, b" ")?;
-    test_io::byte(to, subtype.value)
+    test_io::byte(to, subtype.unwrap_or(0))
 }
 
 fn small<W: Write>(to: &mut W, n: u8) -> io::Result<()> {
     test_io::text(to, b" ")?;
-    test_io::decimal(to, n as u64)
+    test_io::decimal(to, u64::from(n))
 }
 
 fn flag<W: Write>(to: &mut W, set: bool) -> io::Result<()> {
@@ -225,31 +205,20 @@ fn destination<W: Write>(to: &mut W, id: u64) -> io::Result<()> {
 
 // Data, and optional data, without their zero fill.
 fn data<W: Write>(to: &mut W, t: Telegram) -> io::Result<()> {
-    let payload = t.payload;
-    let n = least(t.len, MAX_DATA);
+    let n = t.len.min(MAX_DATA);
     test_io::text(to, b" ")?;
-    test_io::hex(to, &payload[0..n])
+    test_io::hex(to, &t.payload[0..n])
 }
 
 fn optional<W: Write>(to: &mut W, t: Telegram) -> io::Result<()> {
-    let bytes = t.optional;
-    let n = least(
-        base_numbers::usize_of_byte(t.extension.announced),
-        MAX_OPTIONAL,
-    );
+    let announced = t.extension.unwrap_or(NO_EXTENSION).announced;
+    let n = usize::from(announced).min(MAX_OPTIONAL);
     test_io::text(to, b" ")?;
-    test_io::hex(to, &bytes[0..n])
+    test_io::hex(to, &t.optional[0..n])
 }
 
 // ---- numbers
 
 fn pair(high: u8, low: u8) -> usize {
-    base_numbers::usize_of_byte(high) * 256 + base_numbers::usize_of_byte(low)
-}
-
-fn least(x: usize, y: usize) -> usize
-    ensures first { result ≤ x }
-    ensures second { result ≤ y }
-{
-    if x < y { x } else { y }
+    usize::from(u16::from_be_bytes([high, low]))
 }

@@ -1,3 +1,4 @@
+use Rattle.std.specs.Prelude.{Option, Some, None}
 -- The rows that `lines` gives are the reference model's: what is KEPT or LOOSE is valid, so that the length that `is_stored` asks for is always there.
 use mathlib.Core.Path.{◌≡◌, refl, sym, ap, ap₂, ◌∙◌}
 use mathlib.Core.Bool.{Bool, true, false, cond, ◌||◌}
@@ -18,7 +19,6 @@ use Rattle.collector_model.specs.Step.{step}
 use Rattle.collector_model.specs.Reference.{model_view, log_of}
 use Rattle.collector_model.proofs.Invariant.{Good, good_fresh}
 use Rattle.collector_model.proofs.Theorem.{fresh-model}
-use Rattle.text_lines.specs.declared.Setting.{Setting}
 use Rattle.text_lines.specs.Reading.{Reading, reception, bad, setting_of, line_reading}
 use Rattle.text_program.specs.Lines.{Program, lines_of, text_of, output_of}
 use Rattle.text_program.specs.Collect.{Phase, starting, running, over, after_first, after_line}
@@ -136,11 +136,11 @@ unfolding text_of
 over_silent p t n [] = refl
 over_silent p t n (l ∷ ls) = rw (t l, n l) (over_silent p t n ls)
 
-behind_first : (x : Setting) (ls : List (List ℕ)) → said_by (after_first model_collector x) ls ≡ archived_with x ls
+behind_first : (x : (Option ℕ)) (ls : List (List ℕ)) → said_by (after_first model_collector x) ls ≡ archived_with x ls
 unfolding rows_given up_from
-behind_first (Setting.Level n) ls =
+behind_first (Some n) ls =
     ap (λ (v : View). said_by (running_at n v) ls) fresh-model ∙ said-lines n [] ls good_start
-behind_first Setting.Bad ls =
+behind_first None ls =
     ap₂ (λ (x y : List ℕ). rows_given (x ++ []) (y ++ [])) (over_silent row_times (λ l. refl) (λ l. refl) ls)
     (over_silent row_records (λ l. refl) (λ l. refl) ls)
 
@@ -155,9 +155,9 @@ log_archived input = whole_log (lines_of input)
 
 -- ---- each is a row that an archive holds
 
-fit_for : (x : Setting) (ls : List (List ℕ)) → all is_fit (archived_with x ls) ≡ true
-fit_for (Setting.Level n) ls = (took_all ls [] good_start).fit
-fit_for Setting.Bad ls = refl
+fit_for : (x : (Option ℕ)) (ls : List (List ℕ)) → all is_fit (archived_with x ls) ≡ true
+fit_for (Some n) ls = (took_all ls [] good_start).fit
+fit_for None ls = refl
 
 fit-lines : (ls : List (List ℕ)) → all is_fit (archived_for ls) ≡ true
 fit-lines [] = refl

@@ -1,3 +1,4 @@
+use Rattle.std.specs.Prelude.{Option, Some, None}
 -- What lines close, as bytes, line by line and call by call.
 use Prim.Native.Nat.{ℕ, ◌*◌, ◌<◌}
 use native.Mathlib.Omega.{arith}
@@ -25,7 +26,6 @@ use Rattle.collector_model.proofs.Invariant.{Good, good_fresh, good_advance, cla
 use Rattle.history_rows.specs.Closings.{closed_at, closed_from, closings_from}
 use Rattle.history_rows.proofs.Closings.{views_closed_once}
 use Rattle.collector_closings.specs.Cells.{entry_cells, closed_cells}
-use Rattle.text_lines.specs.declared.Setting.{Setting}
 use Rattle.text_lines.specs.Reading.{Reading, reception, bad, setting_of, line_reading, line_limit}
 use Rattle.text_program.specs.Lines.{lines_of, text_of, output_of}
 use Rattle.text_program.specs.Chunks.{joined}
@@ -87,11 +87,11 @@ lines-closed setting v input =
 
 -- ---- a log
 
-behind_first : (x : Setting) (ls : List (List ℕ)) → text_of (line_closings true) (after_first model_collector x) ls
+behind_first : (x : (Option ℕ)) (ls : List (List ℕ)) → text_of (line_closings true) (after_first model_collector x) ls
     ≡ entry_cells (closed_with x ls)
 unfolding entry_cells flatten
-behind_first (Setting.Level n) ls = lines-text n ls (record { setting = n; view = fresh })
-behind_first Setting.Bad ls = over_silent (line_closings true) (λ l. refl) (λ l. refl) ls
+behind_first (Some n) ls = lines-text n ls (record { setting = n; view = fresh })
+behind_first None ls = over_silent (line_closings true) (λ l. refl) (λ l. refl) ls
 
 whole_log : (ls : List (List ℕ)) → text_of (line_closings true) starting ls ≡ entry_cells (closed_for ls)
 unfolding text_of entry_cells flatten
@@ -173,10 +173,10 @@ pub closed-sized : (input : List ℕ) → length (entry_cells (closed_of input))
 unfolding closed_of entry_cells flatten
 closed-sized input = go (lines_of input)
   where
-    behind : (x : Setting) (ls : List (List ℕ))
+    behind : (x : (Option ℕ)) (ls : List (List ℕ))
         → length (entry_cells (closed_with x ls)) ≡ cell_length * length (closed_with x ls)
-    behind (Setting.Level n) ls = from-sized (handed_over ls) fresh good_fresh (timely ls)
-    behind Setting.Bad ls = refl
+    behind (Some n) ls = from-sized (handed_over ls) fresh good_fresh (timely ls)
+    behind None ls = refl
 
     go : (ls : List (List ℕ)) → length (entry_cells (closed_for ls)) ≡ cell_length * length (closed_for ls)
     go [] = refl

@@ -8,7 +8,7 @@ use mathlib.Core.List.{List, [], ◌∷◌, ◌++◌, map, append_assoc, append-
 use lib.Dec.{eqb, ltb}
 use lib.ListN.{length, get_or, take, drop, take-append-drop, length-take, length-drop}
 use lib.Seq.{take-add, take-take, length-take-le}
-use borrow.Author.Tests.{ltb-true, ltb-false, ne_eqb}
+use borrow.Author.Tests.{ltb-true, ltb-false}
 use Rattle.base_bytes.specs.Bytes.{index_of}
 use Rattle.base_lists.proofs.Tests.{by_test}
 use Rattle.base_lists.proofs.Padded.{take-padded}
@@ -24,7 +24,7 @@ use Rattle.text_collect.specs.Session.{Receiver, model_collector}
 use Rattle.text_collect.specs.Rows.{row_times, line_ticks}
 use Rattle.text_collect.specs.Formats.{collect_in}
 use Rattle.c_collector.specs.State.{Arrays}
-use Rattle.c_lines.specs.Calls.{line_number, SkippedTo, Skipped}
+use Rattle.c_lines.specs.Calls.{line_number, line_values, SkippedTo, Skipped}
 use Rattle.c_lines.specs.Formats.{format_of}
 use Rattle.history_archived.specs.Runs.{LinesCall, used_by, lines_by, TakesLines, TakesAs, GoesOn, IsRun, used_in}
 use Rattle.history_archived.specs.Places.{IsFrom, Passes, passed, skip, BeginsAt, here, again, Walks, ended, next}
@@ -273,13 +273,17 @@ record SaidLine (r : LineRead) (l : List ℕ) : Type 0 where
 
 -- by the front of its input
 abbrev number_for : Front → ℕ
-number_for f = line_number (line_of f).ok (line_of f).used
+number_for f = line_number (line_of f)
+
+abbrev told_for : Front → List ℕ
+told_for f = line_values (line_of f)
 
 abbrev reading_for : Front → Reading
-reading_for f = cond (eqb (number_for f) 0) (reception (line_of f).time (take (line_of f).len (bytes_in f))) bad
+reading_for f =
+    cond (eqb (number_for f) 0) (reception (get_or (told_for f) 0 0) (take (get_or (told_for f) 1 0) (bytes_in f))) bad
 
 record SaidFor (input : List ℕ) (f : Front) : Type 0 where
-  used : (line_of f).used ≡ index_of newline input + 1
+  used : get_or (told_for f) 2 0 ≡ index_of newline input + 1
   there : index_of newline input < length input
   reading : line_reading (take (index_of newline input) input) ≡ reading_for f
 
@@ -288,11 +292,7 @@ said_for input =
     let n = index_of newline input in
     by_cases input (λ f. (number_for f ≡ 4 → ⊥) → SaidFor input f)
     (λ h some. absurd (some refl))
-    (λ h q some. record {
-      used = refl;
-      there = h;
-      reading = q ∙ rw (ne_eqb (n + 1) 0 (λ z. omega arith));
-    })
+    (λ h q some. record { used = refl; there = h; reading = q })
     (λ t bs h q some. record { used = refl; there = h; reading = q ∙ rw (take-padded 64 bs) })
 
 read_said : (r : LineRead) → IsRead r → SaidLine r (take (index_of newline r.input) r.input)
@@ -370,7 +370,7 @@ none_for input =
     let n = index_of newline input in
     by_cases input (λ f. 4 ≡ number_for f → length input ≤ n)
     (λ h z. h)
-    (λ h q z. absurd (let y : 4 ≡ 3 = rw (ne_eqb (n + 1) 0 (λ z. omega arith)) at z in omega arith))
+    (λ h q z. absurd (omega arith))
     (λ t bs h q z. absurd (omega arith))
 
 pub none_read : NoneRead

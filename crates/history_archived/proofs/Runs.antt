@@ -1,3 +1,4 @@
+use Rattle.std.specs.Prelude.{Some}
 -- Calls of `lines`, and calls of `lines_as`, one after the other and with restarts between them, follow the reference
 -- model.
 use mathlib.Core.Path.{◌≡◌, refl, sym, ap, ap₂, subst, ◌∙◌}
@@ -11,7 +12,6 @@ use Rattle.collector_model.specs.View.{View, fresh}
 use Rattle.collector_model.proofs.Invariant.{Good, good_fresh}
 use Rattle.collector_model.proofs.Theorem.{fresh-model}
 use Rattle.text_lines.specs.Ascii.{newline}
-use Rattle.text_lines.specs.declared.Setting.{Setting}
 use Rattle.text_lines.specs.Reading.{level_line, setting_of, line_limit}
 use Rattle.text_rows.specs.declared.formats.Format.{Format}
 use Rattle.text_rows.specs.Formats.{heading_in}
@@ -248,7 +248,7 @@ first_in_lem f (suc (suc (suc n))) h = absurd (omega arith)
 
 -- what is printed for it and lines behind it
 level-printed : (setting : ℕ) → setting ≤ 2 → (x : List ℕ)
-    → printed_of (level_text setting ++ x) ≡ printed_with (Setting.Level setting) (lines_of x)
+    → printed_of (level_text setting ++ x) ≡ printed_with (Some setting) (lines_of x)
 unfolding printed_of lines_of setting_of
 level-printed zero h x = refl
 level-printed (suc zero) h x = refl
@@ -256,7 +256,7 @@ level-printed (suc (suc zero)) h x = refl
 level-printed (suc (suc (suc n))) h x = absurd (omega arith)
 
 level-printed_in : (f : Format) (setting : ℕ) → setting ≤ 2 → (x : List ℕ)
-    → printed_in f (level_text setting ++ x) ≡ printed_with_in f (Setting.Level setting) (lines_of x)
+    → printed_in f (level_text setting ++ x) ≡ printed_with_in f (Some setting) (lines_of x)
 unfolding printed_in lines_of setting_of
 level-printed_in f zero h x = refl
 level-printed_in f (suc zero) h x = refl
@@ -267,7 +267,7 @@ level-printed_in f (suc (suc (suc n))) h x = absurd (omega arith)
 
 follows_text : (setting : ℕ) → setting ≤ 2 → (v : View) (x t : List ℕ)
     → Drained (collect model_collector) line_limit (running_at setting fresh) x (running_at setting v) t
-    → t ++ totals_line v.totals ≡ printed_with (Setting.Level setting) (lines_of x)
+    → t ++ totals_line v.totals ≡ printed_with (Some setting) (lines_of x)
 unfolding last_text
 follows_text setting few v x t d =
     let w = both (collect model_collector) line_limit (first setting few) d in
@@ -281,7 +281,7 @@ output-printed f y =
 
 follows_in : (f : Format) (setting : ℕ) → setting ≤ 2 → (v : View) (x t : List ℕ)
     → Drained (collect_in f) line_limit (running_at setting fresh) x (running_at setting v) t
-    → heading_in f ++ (t ++ totals_text_in f v.totals) ≡ printed_with_in f (Setting.Level setting) (lines_of x)
+    → heading_in f ++ (t ++ totals_text_in f v.totals) ≡ printed_with_in f (Some setting) (lines_of x)
 follows_in f setting few v x t d =
     let w = both (collect_in f) line_limit (first_in_lem f setting few) d in
     let y = level_text setting ++ x in

@@ -1,11 +1,10 @@
 -- What a log closes: each telegram that is no longer open at the next accepted reception, once, with its number of
 -- copies (document 02, A8).
-use Rattle.std.specs.Prelude.{ℕ, ◌*◌, ◌<◌, ◌≡◌, true, List, [], ◌∷◌, ◌++◌, map, length, get_or, take}
+use Rattle.std.specs.Prelude.{ℕ, ◌*◌, ◌<◌, ◌≡◌, true, List, [], ◌∷◌, ◌++◌, map, length, get_or, take, Option, Some, None}
 use Rattle.collector_model.specs.View.{Reception, Entry, View, fresh}
 use Rattle.collector_model.specs.Burst.{after_all}
 use Rattle.history_rows.specs.Closings.{closings_from, EachOnce}
 use Rattle.collector_closings.specs.Cells.{entry_cells}
-use Rattle.text_lines.specs.declared.Setting.{Setting}
 use Rattle.text_lines.specs.Reading.{Reading, reception, bad, setting_of, line_reading}
 use Rattle.text_program.specs.Lines.{lines_of, output_of}
 use Rattle.text_program.specs.Chunks.{joined}
@@ -29,9 +28,9 @@ handed_over [] = []
 handed_over (l ∷ ls) = handed_by (line_reading l) ++ handed_over ls
 
 -- what closes in the lines after a first line `level N`; any other first line ends the run
-abbrev pub closed_with : Setting → List (List ℕ) → List Entry
-closed_with (Setting.Level n) ls = closings_from fresh (handed_over ls)
-closed_with Setting.Bad ls = []
+abbrev pub closed_with : Option ℕ → List (List ℕ) → List Entry
+closed_with (Some n) ls = closings_from fresh (handed_over ls)
+closed_with None ls = []
 
 -- the same, also if there is no first line
 abbrev pub closed_for : List (List ℕ) → List Entry

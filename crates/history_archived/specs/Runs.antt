@@ -1,10 +1,9 @@
 -- The claims on the calls `lines` and `lines_as` on a collector in arrays, as other languages make them, with restarts
 -- between them. proofs/Runs.antt proves them. Of the code, the proofs use only the contracts of the calls. Closed.antt
 -- has what `lines_as` closes.
-use Rattle.std.specs.Prelude.{ℕ, ◌+◌, ◌*◌, ◌≤◌, ◌≡◌, List, [], ◌∷◌, ◌++◌, map, length, get_or, take}
+use Rattle.std.specs.Prelude.{ℕ, ◌+◌, ◌*◌, ◌≤◌, ◌≡◌, List, [], ◌∷◌, ◌++◌, map, length, get_or, take, Some}
 use Rattle.collector_model.specs.View.{fresh}
 use Rattle.collector_model.specs.Image.{image_length, checkpoint_of}
-use Rattle.text_lines.specs.declared.Setting.{Setting}
 use Rattle.text_rows.specs.Formats.{heading_in}
 use Rattle.text_program.specs.Lines.{lines_of}
 use Rattle.text_program.specs.Chunks.{joined}
@@ -106,7 +105,7 @@ pub record FollowsModel (cs : List LinesCall) : Type 0 where
 -- the totals are what `collect` prints after its first line. The collector starts fresh.
 pub record Follows (setting : ℕ) (a : Arrays) (cs : List LinesCall) : Type 0 where
   pub text : joined (map text_by cs) ++ totals_line (state_at (arrays_at_end a cs)).totals
-      ≡ printed_with (Setting.Level setting) (lines_of (used_in cs))
+      ≡ printed_with (Some setting) (lines_of (used_in cs))
   pub agrees : FollowsModel cs
 
 abbrev pub CallsFollow : Type 0
@@ -120,7 +119,7 @@ CallsFollow =
 pub record FollowsAs (setting format : ℕ) (a : Arrays) (cs : List LinesCall) : Type 0 where
   pub text : heading_in (format_of format)
       ++ (joined (map text_by cs) ++ totals_text_in (format_of format) (state_at (arrays_at_end a cs)).totals)
-      ≡ printed_with_in (format_of format) (Setting.Level setting) (lines_of (used_in cs))
+      ≡ printed_with_in (format_of format) (Some setting) (lines_of (used_in cs))
   pub agrees : FollowsModel cs
 
 abbrev pub CallsFollowAs : Type 0

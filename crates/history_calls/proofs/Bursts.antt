@@ -32,7 +32,7 @@ use Rattle.c_layout.specs.Frame.{frame_bytes}
 use Rattle.c_collector.specs.State.{Arrays, state_at}
 use Rattle.c_burst.specs.Bytes.{receptions_in, reply_length, reply_bytes, is_sized}
 use Rattle.c_burst.specs.Calls.{BurstCall, any_place, replies_with, burst_call, Bursts}
-use Rattle.c_burst.proofs.Sizes.{called}
+use Rattle.collector_burst.proofs.Planning.{called}
 use Rattle.history_calls.specs.Answers.{replied_in, replies_in_places}
 use Rattle.history_calls.proofs.Answers.{ProperReply, proper_reply, reply-back}
 

@@ -9,6 +9,8 @@ use lib.Dec.{eqb}
 use lib.ListN.{length, take}
 use borrow.Author.Tests.{eqb-true, eqb-false}
 use Rattle.base_lists.proofs.Tests.{by_test}
+use Rattle.std.specs.Prelude.{Result}
+use Rattle.base_refusal.specs.declared.Refusal.{Refusal}
 use Rattle.base_refusal.specs.declared.Refusal.TheVariants.{NotAccepted}
 use Rattle.base_refusal.proofs.Numbers.{refused-number}
 use Rattle.collector_model.specs.Answer.{is_received}
@@ -20,13 +22,11 @@ use Rattle.collector_model.specs.Burst.{taken, BurstResult, burst_of}
 use Rattle.collector_model.specs.History.{Receive, Cut, Burst}
 use Rattle.collector_state.specs.declared.Collector.{Collector}
 use Rattle.collector_state.specs.declared.Taken.{Taken}
-use Rattle.collector_state.specs.Collector.{Columns, columns_of, columns_holding, columns_after, view_of, IsFresh}
+use Rattle.collector_state.specs.Collector.{Columns, columns_of, columns_holding, columns_after, view_of, next_in, IsFresh}
 use Rattle.collector_state.specs.Collector as collector
-use Rattle.collector_checkpoint.specs.declared.Restored.{Restored}
 use Rattle.collector_checkpoint.specs.Checkpoint as images
 use Rattle.collector_burst.specs.declared.Reception as reception
 use Rattle.collector_burst.specs.declared.Reply.{Reply}
-use Rattle.collector_burst.specs.declared.Bursted.{Bursted}
 use Rattle.collector_burst.specs.Records.{reception_of, replied_of, columns_after_all}
 use Rattle.collector_burst.specs.Records as burst
 use Rattle.c_collector.specs.State.{Arrays, arrays, columns_at, state_at, numbers_of, arrays_of}
@@ -123,18 +123,18 @@ restore_done v image =
     (λ bad. rw bad (λ z. absurd (refused-number NotAccepted z)))
     (λ good. rw good (λ z. refl))
 
-pub restored-value : {c : Collector} {image : List ℕ} {q : Restored}
-    → images.Restores c image q → arrays_of q.next ≡ restored_arrays (arrays_of c) image
+pub restored-value : {c : Collector} {image : List ℕ} {q : Result Collector Refusal}
+    → images.Restores c image q → arrays_of (next_in c q) ≡ restored_arrays (arrays_of c) image
 unfolding view_of
 restored-value {c} {image} {q} k =
     let m = (restore_of (view_of c) image).number in
     let same = ap (λ (x : RestoreResult). x.number) k.result in
     let a = columns_holding (parse image).entries in
-    chosen (arrays_of q.next) (eqb m 0) (arrays_with a (parse image)) (arrays_of c)
+    chosen (arrays_of (next_in c q)) (eqb m 0) (arrays_with a (parse image)) (arrays_of c)
     (λ yes.
     let z = eqb-true m 0 yes in
-    joined (arrays_of q.next) a (parse image) (k.elements (same ∙ z))
-    (counted q.next (parse image)
+    joined (arrays_of (next_in c q)) a (parse image) (k.elements (same ∙ z))
+    (counted (next_in c q) (parse image)
     (ap (λ (x : RestoreResult). x.next) k.result ∙ restore_done (view_of c) image z)))
     (λ no. ap arrays_of (k.stays (λ z. eqb-false m 0 no (sym same ∙ z))))
 
@@ -146,26 +146,27 @@ pub other-value : {d : Collector} {after written : List ℕ} → IsFresh d → a
     → restored_arrays (arrays_of d) (take image_length after) ≡ restored_arrays fresh_arrays (take image_length written)
 other-value f w = ap₂ (λ (x : Arrays) (l : List ℕ). restored_arrays x (take image_length l)) (fresh-value f) w
 
-pub resumed-value : (c : Collector) (output : List ℕ) {d : Collector} {after : List ℕ} {n : ℕ} {q : Restored}
+pub resumed-value : (c : Collector) (output : List ℕ) {d : Collector} {after : List ℕ} {n : ℕ}
+    {q : Result Collector Refusal}
     → record { number = n; output = after } ≡ checkpoint_of (view_of c) output
     → IsFresh d → images.Restores d (take image_length after) q
-    → arrays_of q.next ≡ arrays_after (arrays_of c) (Cut output)
+    → arrays_of (next_in d q) ≡ arrays_after (arrays_of c) (Cut output)
 unfolding view_of
 resumed-value c output e f k = restored-value k ∙ other-value f (ap (λ (p : CheckpointResult). p.output) e)
 
 pub bursted_value : {c : Collector} {setting : ℕ}
-    {rs : List reception.Reception} {places after : List Reply} {b : Bursted}
+    {rs : List reception.Reception} {places after : List Reply} {b : Result Collector Refusal}
     → burst.Bursts c setting rs places b after
-    → arrays_of b.next ≡ arrays_after (arrays_of c) (Burst setting (map reception_of rs) (map replied_of places))
+    → arrays_of (next_in c b) ≡ arrays_after (arrays_of c) (Burst setting (map reception_of rs) (map replied_of places))
 unfolding view_of
 bursted_value {c} {setting} {rs} {places} {after} {b} k =
     let x = burst_of setting (view_of c) (map reception_of rs) (map replied_of places) in
     let same = ap (λ (y : BurstResult). y.number) k.result in
     let a = columns_after_all (view_of c) (map reception_of rs) (columns_of c) in
-    chosen (arrays_of b.next) (eqb x.number 0) (arrays_with a x.next) (arrays_of c)
+    chosen (arrays_of (next_in c b)) (eqb x.number 0) (arrays_with a x.next) (arrays_of c)
     (λ yes.
     let z = same ∙ eqb-true x.number 0 yes in
-    joined (arrays_of b.next) a x.next
+    joined (arrays_of (next_in c b)) a x.next
     (k.elements ∙ ap (λ (n : ℕ). columns_after_all (view_of c) (taken n (map reception_of rs)) (columns_of c)) z)
-    (counted b.next x.next (ap (λ (y : BurstResult). y.next) k.result)))
+    (counted (next_in c b) x.next (ap (λ (y : BurstResult). y.next) k.result)))
     (λ no. ap arrays_of (k.stays (λ z. eqb-false x.number 0 no (sym same ∙ z))))

@@ -1,3 +1,4 @@
+use Rattle.std.specs.Prelude.{Option, Some}
 -- The tool's state after a log: it is lawful, so that it is written.
 --     level-bad, all-archived, all-stands   a log's lines with the first one, which says no reception
 --     lines-few, lines-counted              how many lines a text has
@@ -42,7 +43,6 @@ use Rattle.collector_model.proofs.Invariant.{good_fresh}
 use Rattle.collector_model.proofs.Image.{fits_layout, image-length}
 use Rattle.collector_model.proofs.Theorem.{fresh-model}
 use Rattle.text_lines.specs.Ascii.{newline}
-use Rattle.text_lines.specs.declared.Setting.{Setting}
 use Rattle.text_lines.specs.Reading.{Reading, bad, level_line, setting_of, line_reading, line_limit}
 use Rattle.text_program.specs.Lines.{prepend, lines_of, text_of, output_of}
 use Rattle.text_program.specs.Chunks.{at_line_start, feed_text}
@@ -112,14 +112,14 @@ level_is : (n : ℕ) (l : List ℕ) → line_reading l ≡ get_or (map line_read
     → get_or (bad ∷ bad ∷ bad ∷ []) n bad ≡ bad → line_reading l ≡ bad
 level_is n l e z = e ∙ ap (λ (x : List Reading). get_or x n bad) first_lines ∙ z
 
-level-bad : (l : List ℕ) (n : ℕ) → setting_of l ≡ Setting.Level n → line_reading l ≡ bad
+level-bad : (l : List ℕ) (n : ℕ) → setting_of l ≡ Some n → line_reading l ≡ bad
 unfolding setting_of
 level-bad l n =
-    branch (λ (x : Setting). x ≡ Setting.Level n → line_reading l ≡ bad) (equal l (level_line 0))
+    branch (λ (x : (Option ℕ)). x ≡ Some n → line_reading l ≡ bad) (equal l (level_line 0))
     (λ t _. level_is 0 l (ap line_reading (equal_eq l (level_line 0) (rw t tt))) refl)
-    λ _. branch (λ (x : Setting). x ≡ Setting.Level n → line_reading l ≡ bad) (equal l (level_line 1))
+    λ _. branch (λ (x : (Option ℕ)). x ≡ Some n → line_reading l ≡ bad) (equal l (level_line 1))
     (λ t _. level_is 1 l (ap line_reading (equal_eq l (level_line 1) (rw t tt))) refl)
-    λ _. branch (λ (x : Setting). x ≡ Setting.Level n → line_reading l ≡ bad) (equal l (level_line 2))
+    λ _. branch (λ (x : (Option ℕ)). x ≡ Some n → line_reading l ≡ bad) (equal l (level_line 2))
     (λ t _. level_is 2 l (ap line_reading (equal_eq l (level_line 2) (rw t tt))) refl)
     λ _ e. let z : ◌≡◌ {A = ℕ} 0 1 = cc in absurd (omega arith)
 
@@ -189,7 +189,7 @@ module _ (log : List ℕ) where
     begun_stands : image_of (model_view (log_of (past_after_lines [] (lines_of log)))) ≡ image_of (state_after_log log)
     unfolding output_of
     begun_stands =
-        sym (first_after (Setting.Level b.setting) (lines_of log))
+        sym (first_after (Some b.setting) (lines_of log))
         ∙ sym (rw (no_text (lines_of log) here))
         ∙ state_behind ∙ sym (first_state log b.setting b.first b.few) ∙ state_whole log
 

@@ -1,3 +1,4 @@
+use Rattle.std.specs.Prelude.{Option, Some, None}
 -- What a text gives in parts: whole lines first, a last line without a newline, the first line of a log.
 --     out-more, out-last            a program over whole lines and what is behind them; over a last line
 --     said_more, said-last, no_more the same of the rows
@@ -21,7 +22,6 @@ use Rattle.base_lists.proofs.Tests.{branch, by_test}
 use Rattle.collector_model.specs.View.{fresh}
 use Rattle.collector_closings.specs.Cells.{entry_cells}
 use Rattle.text_lines.specs.Ascii.{newline}
-use Rattle.text_lines.specs.declared.Setting.{Setting}
 use Rattle.text_lines.specs.Reading.{level_line, setting_of, line_limit}
 use Rattle.text_program.specs.Lines.{Program, lines_of, state_after, text_of, output_of}
 use Rattle.text_program.specs.Chunks.{
@@ -187,20 +187,20 @@ module _ (p : Program (Phase Receiver)) (s s' : Phase Receiver) where
 
 -- ---- the first line of a log
 
-pub level_few : (l : List ℕ) (n : ℕ) → setting_of l ≡ Setting.Level n → n ≤ 2
+pub level_few : (l : List ℕ) (n : ℕ) → setting_of l ≡ Some n → n ≤ 2
 unfolding setting_of
 level_few l n =
-    branch (λ (x : Setting). x ≡ Setting.Level n → n ≤ 2) (equal l (level_line 0))
+    branch (λ (x : (Option ℕ)). x ≡ Some n → n ≤ 2) (equal l (level_line 0))
     (λ _ e. let z : n ≡ 0 = cc in omega arith)
-    λ _. branch (λ (x : Setting). x ≡ Setting.Level n → n ≤ 2) (equal l (level_line 1))
+    λ _. branch (λ (x : (Option ℕ)). x ≡ Some n → n ≤ 2) (equal l (level_line 1))
     (λ _ e. let z : n ≡ 1 = cc in omega arith)
-    λ _. branch (λ (x : Setting). x ≡ Setting.Level n → n ≤ 2) (equal l (level_line 2))
+    λ _. branch (λ (x : (Option ℕ)). x ≡ Some n → n ≤ 2) (equal l (level_line 2))
     (λ _ e. let z : n ≡ 2 = cc in omega arith)
     λ _ e. let z : ◌≡◌ {A = ℕ} 0 1 = cc in absurd (omega arith)
 
-pub first_level : (x : Setting) (setting : ℕ) → setting ≡ level_number x → setting ≤ 2 → x ≡ Setting.Level setting
-first_level (Setting.Level n) setting e h = ap Setting.Level (sym e)
-first_level Setting.Bad setting e h = absurd (omega arith)
+pub first_level : (x : (Option ℕ)) (setting : ℕ) → setting ≡ level_number x → setting ≤ 2 → x ≡ Some setting
+first_level (Some n) setting e h = ap Some (sym e)
+first_level None setting e h = absurd (omega arith)
 
 module _ (log : List ℕ) where
   abbrev end : ℕ
@@ -253,10 +253,10 @@ module _ (log : List ℕ) where
         (λ t. behind (ltb-true end (length log) t) ∙ go (setting_of line) refl (rw t at h))
         (λ f. out_open p b starting log (open_whole log (ltb-false end (length log) f)) ∙ alone (take line_limit log))
       where
-        go : (s : Setting) → setting_of line ≡ s → 2 < level_number s
+        go : (s : (Option ℕ)) → setting_of line ≡ s → 2 < level_number s
             → output_of p (after_first model_collector s) (drop (end + 1) log) ≡ x
-        go (Setting.Level n) e k = absurd (omega (arith, level_few line n e))
-        go Setting.Bad e k = ended (drop (end + 1) log)
+        go (Some n) e k = absurd (omega (arith, level_few line n e))
+        go None e k = ended (drop (end + 1) log)
 
   -- a program that gives nothing outside a run
   module _ (p : Program (Phase Receiver)) (b : Bounded p line_limit)

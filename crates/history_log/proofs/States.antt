@@ -1,3 +1,4 @@
+use Rattle.std.specs.Prelude.{Option, Some, None}
 -- Where a text leads: the state after whole lines, after a last line, and after a whole log.
 --     state-more, state-last, state-none     the image behind whole lines; behind a last line; where nothing is left
 --     state-whole                            a log: the reference model's collector
@@ -14,7 +15,6 @@ use Rattle.collector_model.specs.Reference.{log_of, model_view}
 use Rattle.collector_model.proofs.Invariant.{Good, good_fresh}
 use Rattle.collector_model.proofs.Theorem.{fresh-model}
 use Rattle.text_lines.specs.Ascii.{newline}
-use Rattle.text_lines.specs.declared.Setting.{Setting}
 use Rattle.text_lines.specs.Reading.{Reading, reception, bad, setting_of, line_reading, line_limit}
 use Rattle.text_program.specs.Lines.{lines_of, state_after, text_of, output_of}
 use Rattle.text_program.specs.Chunks.{Position, Bounded, at_line_start, fed, feed, feed_text, last_text}
@@ -93,12 +93,12 @@ running_after setting (l ∷ ls) v = go (line_reading l) (λ w. running_after se
 good_start : Good (model_view (log_of []))
 good_start = rw fresh-model at good_fresh
 
-pub first_after : (x : Setting) (ls : List (List ℕ))
+pub first_after : (x : (Option ℕ)) (ls : List (List ℕ))
     → image_at (state_after states (after_first model_collector x) ls) ≡ image_of (model_view (log_of (past_with x ls)))
-first_after (Setting.Level n) ls =
+first_after (Some n) ls =
     ap image_at (running_after n ls fresh) ∙ ap (λ (v : View). image_of (view_after_lines v ls)) fresh-model
     ∙ ap image_of (took_all ls [] good_start).view
-first_after Setting.Bad ls = ap image_at (over_after ls) ∙ ap image_of fresh-model
+first_after None ls = ap image_at (over_after ls) ∙ ap image_of fresh-model
 
 lines_after : (ls : List (List ℕ)) → image_at (state_after states starting ls)
     ≡ image_of (model_view (log_of (past_for ls)))
@@ -126,9 +126,9 @@ module _ (log : List ℕ) where
   alone [] = refl
   alone (c ∷ l) = go (setting_of (c ∷ l))
     where
-      go : (x : Setting) → image_at (after_first model_collector x) ≡ image_of fresh
-      go (Setting.Level n) = refl
-      go Setting.Bad = refl
+      go : (x : (Option ℕ)) → image_at (after_first model_collector x) ≡ image_of fresh
+      go (Some n) = refl
+      go None = refl
 
   pub none_state : 2 < first_number log → output_of states starting log ≡ image_of fresh
   none_state h = none_out log states states_bounded (λ l. refl) (λ l. refl) (image_of fresh) over_state alone h

@@ -1,6 +1,6 @@
 -- What `keep` answers for a log and an archive, and every byte of what is lent (document 02, A2, A8; document 01,
 -- "Cases").
-use Rattle.std.specs.Prelude.{ℕ, ◌-◌, ◌*◌, ◌/◌, min, Bool, cond, not, ◌||◌, List, [], ◌∷◌, ◌++◌, leb, ltb, eqb, length, drop}
+use Rattle.std.specs.Prelude.{ℕ, ◌-◌, ◌*◌, ◌/◌, min, Bool, cond, not, ◌||◌, List, [], ◌∷◌, ◌++◌, leb, ltb, eqb, length, drop, Option, Some, None}
 use Rattle.base_buffers.specs.Buffer.{resized}
 use Rattle.base_refusal.specs.Number.{number_of}
 use Rattle.base_refusal.specs.declared.Refusal.TheVariants.{Argument, ShortOutput}
@@ -9,7 +9,6 @@ use Rattle.collector_closings.specs.Cells.{entry_cells}
 use Rattle.collector_model.specs.View.{Reception, View}
 use Rattle.collector_model.specs.Image.{image_of}
 use Rattle.collector_model.specs.Reference.{log_of, model_view}
-use Rattle.text_lines.specs.declared.Setting.{Setting}
 use Rattle.text_lines.specs.Reading.{setting_of}
 use Rattle.text_program.specs.Lines.{lines_of}
 use Rattle.text_collect.specs.Printed.{past_after_lines}
@@ -25,9 +24,9 @@ use Rattle.history_log.specs.declared.Kept.{Kept}
 -- ---- the collector after a log, by the reference model
 
 -- the receptions of the lines after a first line `level N`, newest first; any other first line ends the run
-abbrev pub past_with : Setting → List (List ℕ) → List Reception
-past_with (Setting.Level n) ls = past_after_lines [] ls
-past_with Setting.Bad ls = []
+abbrev pub past_with : Option ℕ → List (List ℕ) → List Reception
+past_with (Some n) ls = past_after_lines [] ls
+past_with None ls = []
 
 -- the same for a first line that is missing
 abbrev pub past_for : List (List ℕ) → List Reception

@@ -12,7 +12,7 @@ ghost use Rattle.archive_fill.specs.Fill.{row_length, rows_given};
 ghost use Rattle.text_lines.specs.Ascii.{newline};
 ghost use Rattle.text_lines.specs.Reading.{line_limit};
 ghost use Rattle.text_program.specs.Buffer.{is_unended};
-ghost use Rattle.c_collector.specs.State.{arrays, state_at};
+ghost use Rattle.c_collector.specs.State.{arrays_in, arrays_held, state_at};
 ghost use Rattle.base_buffers.specs.Buffer.{resized};
 ghost use Rattle.text_program.specs.Lines.{lines_of};
 ghost use Rattle.journal_state.specs.State.{max_name};
@@ -22,7 +22,7 @@ ghost use Rattle.history_log.specs.Private.{buffer_length, put_in, last_in, Note
 use archive_fill::ROW_LENGTH;
 use base_refusal::Refusal;
 use block_layout::{BLOCK_LENGTH, CELL_LENGTH, CELLS_PER_BLOCK};
-use c_collector::{BYTES, CAPACITY, NUMBERS};
+use c_collector::{BYTES, CAPACITY, Held, Lent, NUMBERS};
 use collector_checkpoint::IMAGE_LENGTH;
 use journal_state::{NAME_LENGTH, TAIL_LENGTH};
 use radio_telegram::repeater::MAX_SETTING;
@@ -146,7 +146,7 @@ fn put_state(
     let field = name_field(name);
     let last = last_block(archive, rows);
     let numbers = numbers_of(lines, had, name.len(), text, kept);
-    journal_state::write(&numbers, &field, &last, image, &tail, state);
+    let _lawful = journal_state::write(&numbers, &field, &last, image, &tail, state);
     lines
 }
 
@@ -251,55 +251,32 @@ fn go_through(
     let mut bytes = [0u8; BYTES];
     let mut copies = [0u16; CAPACITY];
     let mut numbers = [0u64; NUMBERS];
-    c_collector::fresh(
-        &mut times,
-        &mut lengths,
-        &mut bytes,
-        &mut copies,
-        &mut numbers,
-    );
-    let p = take_log(
-        write,
-        &mut times,
-        &mut lengths,
-        &mut bytes,
-        &mut copies,
-        &mut numbers,
-        log,
-        archive,
-        n,
-        heard,
-    );
-    park(
-        write & p.fits,
-        &times,
-        &lengths,
-        &bytes,
-        &copies,
-        &numbers,
-        image,
-    );
+    let mut state = Lent {
+        times: &mut times,
+        lengths: &mut lengths,
+        bytes: &mut bytes,
+        copies: &mut copies,
+        numbers: &mut numbers,
+    };
+    state.clear();
+    let p = take_log(write, &mut state, log, archive, n, heard);
+    park(write & p.fits, state.held(), image);
     p
 }
 
 // Takes the log, first line included.
 fn take_log(
     write: bool,
-    times: &mut [u64; CAPACITY],
-    lengths: &mut [u8; CAPACITY],
-    bytes: &mut [u8; BYTES],
-    copies: &mut [u16; CAPACITY],
-    numbers: &mut [u64; NUMBERS],
+    state: &mut Lent,
     log: &[u8],
     archive: &mut [u8],
     n: usize,
     heard: &mut [u8],
 ) -> Pass
-    requires { (state_at (arrays times.old lengths.old bytes.old copies.old numbers.old) ≡ fresh)
+    requires { (state_at (arrays_in state.old) ≡ fresh)
         × Holds archive.old n }
     ensures { LogPassed write log.now (outputs archive.old n heard.old 0)
-        (arrays times.new lengths.new bytes.new copies.new
-        numbers.new)
+        (arrays_in state.new)
         archive.new heard.new result }
 {
     let mut first = [0u64; c_lines::FIRST];
@@ -312,54 +289,26 @@ fn take_log(
         };
     }
     let at = first[0] as usize;
-    take_lines(
-        write,
-        times,
-        lengths,
-        bytes,
-        copies,
-        numbers,
-        setting,
-        &log[at..],
-        archive,
-        n,
-        heard,
-        0,
-    )
+    take_lines(write, state, setting, &log[at..], archive, n, heard, 0)
 }
 
 // Writes the image, if `write` says so.
-fn park<'a>(
-    write: bool,
-    times: &'a [u64; CAPACITY],
-    lengths: &'a [u8; CAPACITY],
-    bytes: &'a [u8; BYTES],
-    copies: &'a [u16; CAPACITY],
-    numbers: &'a [u64; NUMBERS],
-    image: &'a mut [u8],
-)
+fn park(write: bool, state: Held, image: &mut [u8])
     requires { (image_length ≤ length image.old)
-        × (write ≡ true → acceptable (state_at (arrays times.now lengths.now bytes.now copies.now numbers.now))
-        ≡ true) }
+        × (write ≡ true → acceptable (state_at (arrays_held state)) ≡ true) }
     ensures { image.new
-        ≡ cond write (image_of (state_at (arrays times.now lengths.now bytes.now
-        copies.now numbers.now)) ++ drop image_length image.old)
-        image.old }
+        ≡ cond write (image_of (state_at (arrays_held state.entry)) ++ drop image_length image.old) image.old }
 {
     if !write {
         return;
     }
-    c_checkpoint::checkpoint(times, lengths, bytes, copies, numbers, image);
+    c_checkpoint::checkpoint(state, image);
 }
 
 // Takes all whole lines of the input, in as many calls as it needs, and then the rest of the input, which is no whole line.
 fn take_lines(
     write: bool,
-    times: &mut [u64; CAPACITY],
-    lengths: &mut [u8; CAPACITY],
-    bytes: &mut [u8; BYTES],
-    copies: &mut [u16; CAPACITY],
-    numbers: &mut [u64; NUMBERS],
+    state: &mut Lent,
     setting: u8,
     input: &[u8],
     archive: &mut [u8],
@@ -367,14 +316,12 @@ fn take_lines(
     heard: &mut [u8],
     m: usize,
 ) -> Pass
-    requires { Ready write (arrays times.old lengths.old bytes.old copies.old numbers.old) setting input.now
+    requires { Ready write (arrays_in state.old) setting input.now
         (outputs archive.old n heard.old m) }
     ensures { Went write
-        (arrays times.old lengths.old bytes.old copies.old
-        numbers.old)
+        (arrays_in state.old)
         setting input.now (outputs archive.old n heard.old m)
-        (arrays times.new lengths.new bytes.new copies.new
-        numbers.new)
+        (arrays_in state.new)
         archive.new heard.new result }
 {
     let mut at: usize = 0;
@@ -383,11 +330,7 @@ fn take_lines(
     loop {
         let t = take_some(
             write,
-            times,
-            lengths,
-            bytes,
-            copies,
-            numbers,
+            state,
             setting,
             &input[at..],
             archive,
@@ -411,11 +354,7 @@ fn take_lines(
     }
     take_last(
         write,
-        times,
-        lengths,
-        bytes,
-        copies,
-        numbers,
+        state,
         setting,
         &input[at..],
         archive,
@@ -428,11 +367,7 @@ fn take_lines(
 // Takes a last line without a newline, if there is one: it counts as a line.
 fn take_last(
     write: bool,
-    times: &mut [u64; CAPACITY],
-    lengths: &mut [u8; CAPACITY],
-    bytes: &mut [u8; BYTES],
-    copies: &mut [u16; CAPACITY],
-    numbers: &mut [u64; NUMBERS],
+    state: &mut Lent,
     setting: u8,
     line: &[u8],
     archive: &mut [u8],
@@ -440,14 +375,12 @@ fn take_last(
     heard: &mut [u8],
     m: usize,
 ) -> Pass
-    requires { Ready write (arrays times.old lengths.old bytes.old copies.old numbers.old) setting line.now
+    requires { Ready write (arrays_in state.old) setting line.now
         (outputs archive.old n heard.old m) × (is_unended line.now ≡ true) }
     ensures { Went write
-        (arrays times.old lengths.old bytes.old copies.old
-        numbers.old)
+        (arrays_in state.old)
         setting line.now (outputs archive.old n heard.old m)
-        (arrays times.new lengths.new bytes.new copies.new
-        numbers.new)
+        (arrays_in state.new)
         archive.new heard.new result }
 {
     if line.len() == 0 {
@@ -459,20 +392,7 @@ fn take_last(
     }
     let mut whole = [0u8; WHOLE];
     let end = end_line(line, &mut whole);
-    let t = take_some(
-        write,
-        times,
-        lengths,
-        bytes,
-        copies,
-        numbers,
-        setting,
-        &whole[0..end],
-        archive,
-        n,
-        heard,
-        m,
-    );
+    let t = take_some(write, state, setting, &whole[0..end], archive, n, heard, m);
     Pass {
         fits: t.fits,
         rows: n + t.rows,
@@ -505,11 +425,7 @@ fn least(a: usize, b: usize) -> usize
 // `heard`.
 fn take_some(
     write: bool,
-    times: &mut [u64; CAPACITY],
-    lengths: &mut [u8; CAPACITY],
-    bytes: &mut [u8; BYTES],
-    copies: &mut [u16; CAPACITY],
-    numbers: &mut [u64; NUMBERS],
+    state: &mut Lent,
     setting: u8,
     input: &[u8],
     archive: &mut [u8],
@@ -517,14 +433,12 @@ fn take_some(
     heard: &mut [u8],
     m: usize,
 ) -> Turn
-    requires { Callable (arrays times.old lengths.old bytes.old copies.old numbers.old) setting
+    requires { Callable (arrays_in state.old) setting
         (outputs archive.old n heard.old m) }
     ensures { Turned write
-        (arrays times.old lengths.old bytes.old copies.old
-        numbers.old)
+        (arrays_in state.old)
         setting input.now (outputs archive.old n heard.old m)
-        (arrays times.new lengths.new bytes.new copies.new
-        numbers.new)
+        (arrays_in state.new)
         archive.new heard.new result }
 {
     let mut text = buffer();
@@ -534,11 +448,7 @@ fn take_some(
     let mut done = [0u64; c_lines::formats::DONE];
     let most = CELLS_PER_BLOCK - n % CELLS_PER_BLOCK;
     c_lines::formats::lines_as(
-        times,
-        lengths,
-        bytes,
-        copies,
-        numbers,
+        state,
         setting,
         TEXT,
         input,

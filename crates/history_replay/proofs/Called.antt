@@ -19,17 +19,16 @@ use Rattle.collector_model.specs.Step.{StepOutcome, sent_for}
 use Rattle.collector_model.specs.Image.{RestoreResult, image_length, checkpoint_of, restore_of}
 use Rattle.collector_model.specs.Burst.{Replied, BurstResult, burst_of}
 use Rattle.collector_model.specs.Heard.{copies_of}
-use Rattle.collector_model.specs.History.{Receive, Checkpoint, Restore, Cut, Burst, Ask, Look, Restored}
+use Rattle.collector_model.specs.History.{Call, Receive, Checkpoint, Restore, Cut, Burst, Ask, Look, Restored}
 use Rattle.collector_state.specs.declared.Collector.{Collector}
 use Rattle.collector_state.specs.declared.Taken.{Taken}
-use Rattle.collector_state.specs.declared.Heard.{Heard}
-use Rattle.collector_state.specs.Collector.{view_of, step_outcome_of, IsFresh}
+use Rattle.collector_state.specs.Collector.{view_of, next_number, next_in, step_outcome_of, IsFresh}
 use Rattle.collector_state.specs.Collector as collector
 use Rattle.collector_state.specs.Heard.{heard_of}
-use Rattle.collector_checkpoint.specs.declared.Restored as loaded
 use Rattle.collector_checkpoint.specs.Checkpoint as images
 use Rattle.collector_burst.specs.declared.Within.{Within}
-use Rattle.base_refusal.specs.Number.{outcome_number}
+use Rattle.base_refusal.specs.declared.Refusal.{Refusal}
+use Rattle.std.specs.Prelude.{Result}
 use Rattle.collector_burst.specs.Records.{replied_of, bursted_of}
 use Rattle.c_collector.specs.State.{Arrays, state_at, arrays_of}
 use Rattle.c_collector.specs.Calls.{Takes, Fresh, totals_call, copies_call}
@@ -59,11 +58,17 @@ pub made_as : {s s' : Arrays} {setting n : ℕ} {old new : List ℕ} {x y : List
 made_as {s} {s'} {setting} {n} {old} {new} e k =
     subst (λ (rs : List Reception). BurstMade s setting rs old n s' new) e k
 
-pub totals-done : (s : Arrays) (old values : List ℕ) (number : ℕ) (n : Totals)
-    → record { number = number; values = values } ≡ totals_call (state_at s) old
+pub totals-done : (s t : Arrays) (old values : List ℕ) (number : ℕ) (n : Totals) → t ≡ s
+    → record { number = number; values = values } ≡ totals_call (state_at t) old
     → number ≡ 0 → n ≡ totals_in_values values → n ≡ (state_at s).totals
-totals-done s old values number n e z is =
-    follow.totals-seen {s = s} (record { old = old; values = values; number = number; called = e; seen = is ∙ rw z })
+totals-done s t old values number n same e z is =
+    follow.totals-seen {s = s} (record {
+      old = old;
+      values = values;
+      number = number;
+      called = e ∙ ap (λ (a : Arrays). totals_call (state_at a) old) same;
+      seen = is ∙ rw z;
+    })
 
 module _ {s s' : Arrays} {n : ℕ} {t : Totals} {exit : List ℕ} (seen : t ≡ (state_at s').totals) where
   pub received : {r : Reception} (setting : ℕ) → Takes s r n s' → (sent : Frame) (form number : ℕ)
@@ -163,7 +168,7 @@ pub heard_as_value : {c : Collector} {t : Taken} {x y : Reception}
     → x ≡ y → collector.Takes c x t → collector.Takes c y t
 heard_as_value {c} {t} e k = subst (λ (r : Reception). collector.Takes c r t) e k
 
-pub restored_as_value : {c : Collector} {q : loaded.Restored} {x y : List ℕ}
+pub restored_as_value : {c : Collector} {q : Result Collector Refusal} {x y : List ℕ}
     → x ≡ y → images.Restores c x q → images.Restores c y q
 restored_as_value {c} {q} e k = subst (λ (l : List ℕ). images.Restores c l q) e k
 
@@ -179,6 +184,11 @@ pub given-length : {c : Collector} {setting m : ℕ} {rs : List Reception} {ps :
     → length (map replied_of (take m w.replies)) ≡ m
 given-length {c} {setting} {m} {rs} {ps} k e =
     ap (λ (b : BurstResult). length b.replies) k.result ∙ burst_length setting (view_of c) rs ps ∙ e
+
+-- of a state by another name
+pub at-next : {s : Arrays} {k : Call} {exit : List ℕ} {d e : Collector}
+    → e ≡ d → Called s k exit (arrays_of d) → Called s k exit (arrays_of e)
+at-next {s} {k} {exit} h x = subst (λ (e : Collector). Called s k exit (arrays_of e)) (sym h) x
 
 module _ {c : Collector} {exit : List ℕ} where
   pub received-value : {r : Reception} {t : Taken} (setting : ℕ)
@@ -197,54 +207,54 @@ module _ {c : Collector} {exit : List ℕ} where
     elements = elements.took_value setting k;
   }
 
-  pub restored-value : {image : List ℕ} {q : loaded.Restored} → images.Restores c image q
-      → exit ≡ head_of restoring (outcome_number q.answer) q.next.summary.totals
-      → Called (arrays_of c) (Restore image) exit (arrays_of q.next)
+  pub restored-value : {image : List ℕ} {q : Result Collector Refusal} → images.Restores c image q
+      → exit ≡ head_of restoring (next_number q) (next_in c q).summary.totals
+      → Called (arrays_of c) (Restore image) exit (arrays_of (next_in c q))
   unfolding view_of seen_bytes
   restored-value {image} {q} k put = record {
-    bytes = put ∙ making.loaded (view_of c) image (images.restore_result q) k.result;
+    bytes = put ∙ making.loaded (view_of c) image (images.restore_result c q) k.result;
     state = ap (λ (x : RestoreResult). x.next) k.result;
     elements = elements.restored-value k;
   }
 
-  pub resumed-value : (output after : List ℕ) {d : Collector} {q : loaded.Restored}
+  pub resumed-value : (output after : List ℕ) {d : Collector} {q : Result Collector Refusal}
       → after ≡ (checkpoint_of (view_of c) output).output → IsFresh d
       → images.Restores d (take image_length after) q
       → exit
       ≡ seen_bytes (wrote_of (view_of c) output)
-      ++ head_of restoring (outcome_number q.answer) q.next.summary.totals
-      → Called (arrays_of c) (Cut output) exit (arrays_of q.next)
+      ++ head_of restoring (next_number q) (next_in d q).summary.totals
+      → Called (arrays_of c) (Cut output) exit (arrays_of (next_in d q))
   unfolding view_of seen_bytes
   resumed-value output after {d} {q} w f k put = record {
-    bytes = put ∙ making.cut_made (view_of c) output (images.restore_result q) back;
+    bytes = put ∙ making.cut_made (view_of c) output (images.restore_result d q) back;
     state = ap (λ (x : RestoreResult). x.next) back;
     elements = elements.restored-value k ∙ elements.other-value f w;
   }
     where
-      back : images.restore_result q ≡ restore_of fresh (take image_length (checkpoint_of (view_of c) output).output)
+      back : images.restore_result d q ≡ restore_of fresh (take image_length (checkpoint_of (view_of c) output).output)
       back = k.result ∙ ap₂ (λ (v : View) (l : List ℕ). restore_of v (take image_length l)) f.state w
 
   pub delivered-value : (setting : ℕ) (rs : List Reception) (places : List Replied) (m : ℕ) {w : Within}
       → BurstGiven c setting rs places m w
       → length (map replied_of (take m w.replies)) ≡ m
-      → exit ≡ head_of delivering (outcome_number w.bursted.answer) w.bursted.next.summary.totals ++ be 8 m
+      → exit ≡ head_of delivering (next_number w.bursted) (next_in c w.bursted).summary.totals ++ be 8 m
       ++ flatten (map reply_of (map replied_of (take m w.replies)))
-      → Called (arrays_of c) (Burst setting rs places) exit (arrays_of w.bursted.next)
+      → Called (arrays_of c) (Burst setting rs places) exit (arrays_of (next_in c w.bursted))
   unfolding view_of seen_bytes
   delivered-value setting rs places m {w} k long put = record {
     bytes =
         let l = map replied_of (take m w.replies) in
         put
-        ∙ ap (λ (y : ℕ). head_of delivering (outcome_number w.bursted.answer) w.bursted.next.summary.totals
+        ∙ ap (λ (y : ℕ). head_of delivering (next_number w.bursted) (next_in c w.bursted).summary.totals
         ++ be 8 y ++ flatten (map reply_of l))
         (sym long)
-        ∙ making.delivered (view_of c) setting rs places (bursted_of w.bursted (take m w.replies)) k.result;
+        ∙ making.delivered (view_of c) setting rs places (bursted_of c w.bursted (take m w.replies)) k.result;
     state = ap (λ (b : BurstResult). b.next) k.result;
     elements = k.elements;
   }
 
-  pub heard-value : (k : ℕ) (a : Heard) → heard_of a ≡ copies_of (view_of c) k
-      → exit ≡ head_of asking (outcome_number a.answer) c.summary.totals ++ be 8 a.copies
+  pub heard-value : (k : ℕ) (a : Result ℕ Refusal) → heard_of a ≡ copies_of (view_of c) k
+      → exit ≡ head_of asking (heard_of a).number c.summary.totals ++ be 8 (heard_of a).copies
       → Called (arrays_of c) (Ask k) exit (arrays_of c)
   unfolding view_of seen_bytes
   heard-value k a e put =

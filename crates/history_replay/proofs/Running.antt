@@ -1,4 +1,6 @@
+use Rattle.std.specs.Prelude.{Ok, Err}
 -- The calls one after the other.
+--     both_loans                  the same arrays are lent after one call and another
 --     Made, none_made, turn       the record of the first i calls is written, and the arrays are those after them: at the start, and a call more
 --     enough                      there is room for a call more
 --     ran, refused                all of them, and none of them
@@ -15,18 +17,29 @@ use Rattle.base_buffers.proofs.Segments.{Begun, begin, lend, named}
 use Rattle.collector_model.specs.View.{View, fresh}
 use Rattle.collector_model.specs.History.{Call, run, common}
 use Rattle.collector_model.proofs.Theorem.{whole_history}
-use Rattle.c_collector.specs.State.{Arrays, state_at}
+use Rattle.c_collector.specs.declared.Lent.{Lent}
+use Rattle.c_collector.specs.State.{Arrays, SameLoans, state_at}
 use Rattle.history_calls.specs.Elements.{fresh_arrays, arrays_after, arrays_after_all}
 use Rattle.history_replay_model.specs.Record.{record_of}
 use Rattle.history_replay_model.specs.Replay.{after_call, after_calls, call_size, size_of_all, put_record}
 use Rattle.history_replay_model.proofs.Parts.{after_append, in_parts}
 use Rattle.history_replay_model.proofs.Sizes.{sized, size_append, size-part}
-use Rattle.base_refusal.specs.declared.Outcome.TheVariants.{Done, Refused}
 use Rattle.history_replay.specs.declared.Replayed.{Replayed}
 use Rattle.history_replay.specs.Calls.{call_length, call_in, calls_in, record_at}
 use Rattle.history_replay.specs.Replay.{replayed_of, Resumes, Replays}
 use Rattle.history_replay.specs.Private.{Called}
 use Rattle.history_replay.proofs.Records.{lent_record_lem, lent_record, calls_more, size-lent, sizes_lent}
+
+-- ---- the arrays that are lent
+
+pub both_loans : {a b c : Lent} → SameLoans a b → SameLoans b c → SameLoans a c
+both_loans h k = record {
+  times = k.times ∙ h.times;
+  lengths = k.lengths ∙ h.lengths;
+  bytes = k.bytes ∙ h.bytes;
+  copies = k.copies ∙ h.copies;
+  numbers = k.numbers ∙ h.numbers;
+}
 
 -- ---- one call more
 
@@ -98,7 +111,7 @@ module _ (lent calls : List ℕ) where
 
 module _ {s : Arrays} {h : List Call} {entry exit : List ℕ} where
   pub ran : {at : ℕ} {c : Arrays} → Made s h entry exit at c
-      → Resumes s h entry exit (record { written = at; answer = Done }) c
+      → Resumes s h entry exit (record { written = at; answer = (Ok tt) }) c
   unfolding put_record
   ran {at} {c} b = record {
     result =
@@ -110,7 +123,7 @@ module _ {s : Arrays} {h : List Call} {entry exit : List ℕ} where
   }
 
   pub refused : length entry < size_of_all h → exit ≡ entry
-      → Resumes s h entry exit (record { written = 0; answer = Refused ShortOutput }) s
+      → Resumes s h entry exit (record { written = 0; answer = Err ShortOutput }) s
   unfolding put_record
   refused short same = record {
     result =

@@ -9,7 +9,7 @@ use Rattle.collector_model.specs.Image.{checkpoint_of}
 use Rattle.collector_model.specs.Burst.{Replied, burst_of}
 use Rattle.collector_model.specs.History.{Call, Burst, Seen, Wrote, run}
 use Rattle.collector_state.specs.declared.Collector.{Collector}
-use Rattle.collector_state.specs.Collector.{view_of}
+use Rattle.collector_state.specs.Collector.{view_of, next_in}
 use Rattle.collector_burst.specs.declared.Within.{Within}
 use Rattle.collector_burst.specs.Records.{bursted_of}
 use Rattle.c_collector.specs.State.{Arrays, state_at, arrays_of}
@@ -50,5 +50,5 @@ pub record BurstMade (s : Arrays) (setting : ℕ) (rs : List Reception) (old : L
 
 -- the same by value, with the first m entries
 pub record BurstGiven (c : Collector) (setting : ℕ) (rs : List Reception) (places : List Replied) (m : ℕ) (w : Within) : Type 0 where
-  pub result : bursted_of w.bursted (take m w.replies) ≡ burst_of setting (view_of c) rs places
-  pub elements : arrays_of w.bursted.next ≡ arrays_after (arrays_of c) (Burst setting rs places)
+  pub result : bursted_of c w.bursted (take m w.replies) ≡ burst_of setting (view_of c) rs places
+  pub elements : arrays_of (next_in c w.bursted) ≡ arrays_after (arrays_of c) (Burst setting rs places)

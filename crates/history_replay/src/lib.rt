@@ -12,14 +12,14 @@ pub mod values;
 pub(crate) mod writing;
 
 ghost use Rattle.std.specs.Prelude.{◌≡◌, [], ◌≤◌, leb, length};
-ghost use Rattle.c_collector.specs.State.{arrays};
+ghost use Rattle.c_collector.specs.State.{arrays_in, SameLoans};
 ghost use Rattle.history_replay_model.specs.Replay.{call_size, size_of_all};
 ghost use Rattle.history_replay.specs.Calls.{call_length, call_in, calls_in};
 ghost use Rattle.history_replay.specs.Replay.{Resumes, Replays};
 ghost use Rattle.history_replay.specs.Private.{Called};
 
-use base_refusal::{Outcome, Refusal};
-use c_collector::{BYTES, CAPACITY, NUMBERS};
+use base_refusal::Refusal;
+use c_collector::Lent;
 
 // How long the record of a call is.
 pub const CALL_LENGTH: usize = 64;
@@ -46,53 +46,34 @@ pub const ASKING: u8 = 7;
 #[derive(Clone, Copy)]
 pub struct Replayed {
     pub written: usize,
-    pub answer: Outcome,
+    pub answer: Result<(), Refusal>,
 }
 
 // Writes what a collector started fresh shows for all the calls. If the output is shorter than their record, the answer is 6, and no call is made.
-pub fn replay<'a>(
-    times: &mut [u64; CAPACITY],
-    lengths: &mut [u8; CAPACITY],
-    bytes: &mut [u8; BYTES],
-    copies: &mut [u16; CAPACITY],
-    numbers: &mut [u64; NUMBERS],
-    calls: &'a [u8],
-    lent: &'a [u8],
-    out: &mut [u8],
-) -> Replayed
-    ensures { Replays (calls_in lent.now calls.now) out.old out.new result
-        (arrays times.new lengths.new bytes.new copies.new
-        numbers.new) }
+pub fn replay<'a>(state: &mut Lent, calls: &'a [u8], lent: &'a [u8], out: &mut [u8]) -> Replayed
+    ensures replays { Replays (calls_in lent.now calls.now) out.old out.new result
+        (arrays_in state.new) }
+    ensures same_loans { SameLoans state.old state.new }
 {
-    c_collector::fresh(times, lengths, bytes, copies, numbers);
-    resume(times, lengths, bytes, copies, numbers, calls, lent, out)
+    state.clear();
+    resume(state, calls, lent, out)
 }
 
 // The same for a collector in any state.
-pub fn resume<'a>(
-    times: &mut [u64; CAPACITY],
-    lengths: &mut [u8; CAPACITY],
-    bytes: &mut [u8; BYTES],
-    copies: &mut [u16; CAPACITY],
-    numbers: &mut [u64; NUMBERS],
-    calls: &'a [u8],
-    lent: &'a [u8],
-    out: &mut [u8],
-) -> Replayed
-    ensures { Resumes
-        (arrays times.old lengths.old bytes.old copies.old
-        numbers.old)
+pub fn resume<'a>(state: &mut Lent, calls: &'a [u8], lent: &'a [u8], out: &mut [u8]) -> Replayed
+    ensures resumes { Resumes
+        (arrays_in state.old)
         (calls_in lent.now calls.now) out.old out.new result
-        (arrays times.new lengths.new bytes.new copies.new
-        numbers.new) }
+        (arrays_in state.new) }
+    ensures same_loans { SameLoans state.old state.new }
 {
     if !fits(calls, out.len()) {
         return Replayed {
             written: 0,
-            answer: Outcome::Refused(Refusal::ShortOutput),
+            answer: Err(Refusal::ShortOutput),
         };
     }
-    all(times, lengths, bytes, copies, numbers, calls, lent, out)
+    all(state, calls, lent, out)
 }
 
 // Whether n bytes are enough for what is written for the calls.
@@ -111,33 +92,19 @@ pub(crate) fn fits(calls: &[u8], n: usize) -> bool
 }
 
 // Makes all calls, one after the other.
-fn all<'a>(
-    times: &mut [u64; CAPACITY],
-    lengths: &mut [u8; CAPACITY],
-    bytes: &mut [u8; BYTES],
-    copies: &mut [u16; CAPACITY],
-    numbers: &mut [u64; NUMBERS],
-    calls: &'a [u8],
-    lent: &'a [u8],
-    out: &mut [u8],
-) -> Replayed
+fn all<'a>(state: &mut Lent, calls: &'a [u8], lent: &'a [u8], out: &mut [u8]) -> Replayed
     requires { size_of_all (calls_in [] calls.now) ≤ length out.old }
-    ensures { Resumes
-        (arrays times.old lengths.old bytes.old copies.old
-        numbers.old)
+    ensures resumes { Resumes
+        (arrays_in state.old)
         (calls_in lent.now calls.now) out.old out.new result
-        (arrays times.new lengths.new bytes.new copies.new
-        numbers.new) }
+        (arrays_in state.new) }
+    ensures same_loans { SameLoans state.old state.new }
 {
     let mut at: usize = 0;
     for i in 0..calls.len() / CALL_LENGTH {
         let size = reading::size_in(&calls[CALL_LENGTH * i..CALL_LENGTH * i + CALL_LENGTH]);
         call(
-            times,
-            lengths,
-            bytes,
-            copies,
-            numbers,
+            state,
             &calls[CALL_LENGTH * i..CALL_LENGTH * i + CALL_LENGTH],
             lent,
             &mut out[at..at + size],
@@ -146,53 +113,43 @@ fn all<'a>(
     }
     Replayed {
         written: at,
-        answer: Outcome::Done,
+        answer: Ok(()),
     }
 }
 
 // Makes one call.
-fn call<'a>(
-    times: &mut [u64; CAPACITY],
-    lengths: &mut [u8; CAPACITY],
-    bytes: &mut [u8; BYTES],
-    copies: &mut [u16; CAPACITY],
-    numbers: &mut [u64; NUMBERS],
-    r: &'a [u8],
-    lent: &'a [u8],
-    out: &mut [u8],
-)
+fn call<'a>(state: &mut Lent, r: &'a [u8], lent: &'a [u8], out: &mut [u8])
     requires { (length r.now ≡ call_length) × (length out.old ≡ call_size (call_in [] r.now)) }
-    ensures { Called
-        (arrays times.old lengths.old bytes.old copies.old
-        numbers.old)
+    ensures called { Called
+        (arrays_in state.old)
         (call_in lent.now r.now) out.new
-        (arrays times.new lengths.new bytes.new copies.new
-        numbers.new) }
+        (arrays_in state.new) }
+    ensures same_loans { SameLoans state.old state.new }
 {
     let operation = r[0];
     if operation == RECEIVING {
-        calls::received(times, lengths, bytes, copies, numbers, r, out);
+        calls::received(state, r, out);
         return;
     }
     if operation == SAVING {
-        calls::saved(times, lengths, bytes, copies, numbers, r, out);
+        calls::saved(state, r, out);
         return;
     }
     if operation == CUTTING {
-        calls::cut(times, lengths, bytes, copies, numbers, r, out);
+        calls::cut(state, r, out);
         return;
     }
     if operation == RESTORING {
-        calls::restored(times, lengths, bytes, copies, numbers, r, lent, out);
+        calls::restored(state, r, lent, out);
         return;
     }
     if operation == DELIVERING {
-        calls::delivered(times, lengths, bytes, copies, numbers, r, lent, out);
+        calls::delivered(state, r, lent, out);
         return;
     }
     if operation == ASKING {
-        calls::asked(times, lengths, bytes, copies, numbers, r, out);
+        calls::asked(state, r, out);
         return;
     }
-    calls::looked(times, lengths, bytes, copies, numbers, out);
+    calls::looked(state, out);
 }

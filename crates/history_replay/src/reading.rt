@@ -50,7 +50,7 @@ pub(crate) fn output_length(r: &[u8]) -> usize
     requires { length r.now ≡ call_length }
     ensures { (result ≡ min (number_at 1 r.now) max_output) × (result ≤ max_output) }
 {
-    least(number_at(r, 1) as usize, crate::MAX_OUTPUT)
+    (number_at(r, 1) as usize).min(crate::MAX_OUTPUT)
 }
 
 // How many entries the second list of a burst has.
@@ -58,7 +58,7 @@ pub(crate) fn place_count(r: &[u8]) -> usize
     requires { length r.now ≡ call_length }
     ensures { (result ≡ min (number_at 17 r.now) listed) × (result ≤ listed) }
 {
-    least(number_at(r, 17) as usize, LISTED)
+    (number_at(r, 17) as usize).min(LISTED)
 }
 
 // The part of the separately lent bytes that a record names, as far as there are bytes.
@@ -75,17 +75,8 @@ pub(crate) fn lent_in<'a>(lent: &'a [u8], r: &'a [u8]) -> &'a [u8]
 fn window(s: &[u8], a: u64, n: u64) -> &[u8]
     ensures { result.now ≡ part a n s.now }
 {
-    let start = least(a as usize, s.len());
+    let start = (a as usize).min(s.len());
     let rest = &s[start..];
-    let end = least(n as usize, rest.len());
+    let end = (n as usize).min(rest.len());
     &rest[0..end]
-}
-
-pub(crate) fn least(a: usize, b: usize) -> usize
-    ensures { result ≡ min a b }
-{
-    if a < b {
-        return a;
-    }
-    b
 }

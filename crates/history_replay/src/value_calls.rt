@@ -5,7 +5,8 @@ ghost use Rattle.radio_telegram.specs.Repeater.{repeat_of};
 ghost use Rattle.collector_model.specs.Answer.{shown_of, is_kept};
 ghost use Rattle.collector_model.specs.Image.{checkpoint_of};
 ghost use Rattle.collector_model.specs.History.{Receive, Checkpoint, Restore, Cut, Burst, Ask, Look};
-ghost use Rattle.collector_state.specs.Collector.{view_of};
+ghost use Rattle.collector_state.specs.Collector.{view_of, next_number, next_in};
+ghost use Rattle.collector_state.specs.Heard.{heard_of};
 ghost use Rattle.collector_checkpoint.specs.Checkpoint.{checkpoint_result};
 ghost use Rattle.collector_burst.specs.Records.{listed};
 ghost use Rattle.c_collector.specs.State.{arrays_of};
@@ -14,8 +15,8 @@ ghost use Rattle.history_replay.specs.Calls.{call_length, number_at, call_settin
 ghost use Rattle.history_replay.specs.Private.{Called, wrote_of, BurstGiven};
 
 use crate::writing::{BODY, HEAD};
-use crate::{reading, value_lists, writing};
-use base_refusal::Outcome;
+use crate::{calls, reading, value_lists, writing};
+use base_refusal::Refusal;
 use collector_burst::Within;
 use collector_model::Answer;
 use collector_state::Collector;
@@ -28,7 +29,7 @@ pub(crate) fn received<'a>(c: Collector, r: &'a [u8], out: &'a mut [u8]) -> Coll
         out.new (arrays_of result) }
 {
     let time = reading::number_at(r, 1);
-    let n = reading::least(base_numbers::usize_of_byte(r[9]), reading::RECEPTION);
+    let n = base_numbers::usize_of_byte(r[9]).min(reading::RECEPTION);
     let setting = r[63];
     let taken = c.take(&r[10..10 + n], time);
     let next = taken.next;
@@ -45,10 +46,7 @@ fn sent_for(setting: u8, answer: Answer, bytes: &[u8]) -> Frame
     ensures { result ≡ frame_of (cond (is_kept (shown_of answer)) (repeat_of setting bytes.now) []) }
 {
     match answer {
-        Answer::Kept => {
-            let repeated = radio_telegram::repeater::repeat(setting, bytes);
-            repeated.sent
-        }
+        Answer::Kept => calls::repeated(setting, bytes),
         Answer::Copy => Frame::empty(),
         Answer::Loose => Frame::empty(),
         Answer::Refused(_) => Frame::empty(),
@@ -82,7 +80,7 @@ fn put_wrote(out: &mut [u8], c: Collector, fill: u8)
     );
 }
 
-fn save_into(out: &mut [u8], c: Collector, fill: u8) -> Outcome
+fn save_into(out: &mut [u8], c: Collector, fill: u8) -> Result<(), Refusal>
     ensures { checkpoint_result result out.new
         ≡ checkpoint_of (view_of c) (replicate (length out.old) fill) }
 {
@@ -99,11 +97,11 @@ pub(crate) fn cut<'a>(c: Collector, r: &'a [u8], out: &'a mut [u8]) -> Collector
     let n = reading::output_length(r);
     let end = BODY + n;
     put_wrote(&mut out[0..end], c, r[9]);
-    let last = BODY + reading::least(collector_checkpoint::IMAGE_LENGTH, n);
-    let restored = collector_checkpoint::restore(Collector::fresh(), &out[BODY..last]);
-    let next = restored.next;
-    let answer = restored.answer;
-    let number = base_refusal::outcome_number(answer);
+    let last = BODY + collector_checkpoint::IMAGE_LENGTH.min(n);
+    let fresh = Collector::fresh();
+    let restored = collector_checkpoint::restore(fresh, &out[BODY..last]);
+    let number = next_number(restored);
+    let next = next_in(fresh, restored);
     writing::put_head(
         &mut out[end..end + HEAD],
         crate::RESTORING,
@@ -123,9 +121,8 @@ pub(crate) fn restored<'a>(
     ensures { Called (arrays_of c) (Restore (lent_in lent.now r.now)) out.new (arrays_of result) }
 {
     let restored = collector_checkpoint::restore(c, reading::lent_in(lent, r));
-    let next = restored.next;
-    let answer = restored.answer;
-    let number = base_refusal::outcome_number(answer);
+    let number = next_number(restored);
+    let next = next_in(c, restored);
     writing::put_head(out, crate::RESTORING, number, next.summary.totals);
     next
 }
@@ -147,9 +144,8 @@ pub(crate) fn delivered<'a>(
     let made = burst_in(c, r, reading::lent_in(lent, r), m);
     let bursted = made.bursted;
     let replies = made.replies;
-    let next = bursted.next;
-    let answer = bursted.answer;
-    let number = base_refusal::outcome_number(answer);
+    let number = next_number(bursted);
+    let next = next_in(c, bursted);
     writing::put_body(
         &mut out[0..BODY],
         crate::DELIVERING,
@@ -167,7 +163,7 @@ fn burst_in<'a>(c: Collector, r: &'a [u8], bytes: &'a [u8], m: usize) -> Within
     ensures { BurstGiven c (call_setting r.now) (burst_receptions_in bytes.now)
         (replicate m (place_in r.now)) m result }
 {
-    let n = reading::least(bytes.len() / crate::CALL_LENGTH, collector_burst::LISTED);
+    let n = (bytes.len() / crate::CALL_LENGTH).min(collector_burst::LISTED);
     let records = value_lists::receptions_in(bytes, n);
     let places = value_lists::places(value_lists::place_in(r));
     collector_burst::burst_within(c, r[63], records, n, places, m)
@@ -179,14 +175,14 @@ pub(crate) fn asked<'a>(c: Collector, r: &'a [u8], out: &'a mut [u8]) -> Collect
 {
     let entry = reading::number_at(r, 1);
     let heard = c.copies(entry as usize);
-    let answer = heard.answer;
-    let number = base_refusal::outcome_number(answer);
+    let number = heard_number(heard);
+    let copies = heard_copies(heard);
     writing::put_body(
         out,
         crate::ASKING,
         number,
         c.summary.totals,
-        heard.copies as u64,
+        u64::from(copies),
     );
     c
 }
@@ -197,4 +193,44 @@ pub(crate) fn looked(c: Collector, out: &mut [u8]) -> Collector
 {
     writing::put_head(out, crate::LOOKING, 0, c.summary.totals);
     c
+}
+
+// ---- what the calls answer
+
+// The number of an answer with the next state.
+fn next_number(r: Result<Collector, Refusal>) -> u8
+    ensures { result ≡ next_number r }
+{
+    match r {
+        Ok(_) => 0,
+        Err(why) => base_refusal::number(why),
+    }
+}
+
+// The state after a call: after a refusal, the one that was handed in.
+fn next_in(c: Collector, r: Result<Collector, Refusal>) -> Collector
+    ensures { result ≡ next_in c r }
+{
+    match r {
+        Ok(next) => next,
+        Err(_) => c,
+    }
+}
+
+fn heard_number(r: Result<u16, Refusal>) -> u8
+    ensures { result ≡ (heard_of r).number }
+{
+    match r {
+        Ok(_) => 0,
+        Err(why) => base_refusal::number(why),
+    }
+}
+
+fn heard_copies(r: Result<u16, Refusal>) -> u16
+    ensures { result ≡ (heard_of r).copies }
+{
+    match r {
+        Ok(copies) => copies,
+        Err(_) => 0,
+    }
 }

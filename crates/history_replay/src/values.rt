@@ -8,7 +8,7 @@ ghost use Rattle.history_replay.specs.Replay.{Resumes, Replays};
 ghost use Rattle.history_replay.specs.Private.{Called};
 
 use crate::{Replayed, reading, value_calls};
-use base_refusal::{Outcome, Refusal};
+use base_refusal::Refusal;
 use collector_state::Collector;
 
 // The state after the calls, and how many bytes were written for them.
@@ -36,7 +36,7 @@ pub fn resume<'a>(c: Collector, calls: &'a [u8], lent: &'a [u8], out: &'a mut [u
             next: c,
             replayed: Replayed {
                 written: 0,
-                answer: Outcome::Refused(Refusal::ShortOutput),
+                answer: Err(Refusal::ShortOutput),
             },
         };
     }
@@ -67,7 +67,7 @@ fn all<'a>(c: Collector, calls: &'a [u8], lent: &'a [u8], out: &'a mut [u8]) -> 
         next: now,
         replayed: Replayed {
             written: at,
-            answer: Outcome::Done,
+            answer: Ok(()),
         },
     }
 }

@@ -38,9 +38,7 @@ pub(crate) fn put_body(out: &mut [u8], operation: u8, number: u8, totals: Totals
 pub(crate) fn set_all(out: &mut [u8], fill: u8)
     ensures { out.new ≡ replicate (length out.old) fill }
 {
-    for i in 0..out.len() {
-        out[i] = fill;
-    }
+    out.fill(fill);
 }
 
 // The operation, the number, and the totals.

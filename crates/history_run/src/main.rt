@@ -8,8 +8,7 @@ pub(crate) mod shown;
 
 ghost use Rattle.std.specs.Prelude.{◌≡◌, ◌≤◌, length};
 
-use base_refusal::Outcome;
-use c_collector::{BYTES, CAPACITY, NUMBERS};
+use c_collector::{BYTES, CAPACITY, Lent, NUMBERS};
 use history_replay::Replayed;
 use std::io;
 use std::io::{BufWriter, Read, Write};
@@ -94,13 +93,14 @@ fn called<R: Read, W: Write>(
 
 fn started<W: Write>(to: &mut W, collector: &mut Columns, setting: u8) -> io::Result<Session> {
     test_io::text(to, b"L 0\n")?;
-    c_collector::fresh(
-        &mut collector.times,
-        &mut collector.lengths,
-        &mut collector.bytes,
-        &mut collector.copies,
-        &mut collector.numbers,
-    );
+    let mut state = Lent {
+        times: &mut collector.times,
+        lengths: &mut collector.lengths,
+        bytes: &mut collector.bytes,
+        copies: &mut collector.copies,
+        numbers: &mut collector.numbers,
+    };
+    state.clear();
     Ok(begun(setting))
 }
 
@@ -281,24 +281,22 @@ fn resumed<'a>(
     lent: &'a [u8],
     out: &'a mut [u8],
 ) -> Replayed {
-    history_replay::resume(
-        &mut collector.times,
-        &mut collector.lengths,
-        &mut collector.bytes,
-        &mut collector.copies,
-        &mut collector.numbers,
-        call,
-        lent,
-        out,
-    )
+    let mut state = Lent {
+        times: &mut collector.times,
+        lengths: &mut collector.lengths,
+        bytes: &mut collector.bytes,
+        copies: &mut collector.copies,
+        numbers: &mut collector.numbers,
+    };
+    history_replay::resume(&mut state, call, lent, out)
 }
 
 // Whether the call was not made, because the output is too short; then nothing is printed for it.
 fn is_refused(ran: Replayed) -> bool {
     let answer = ran.answer;
     match answer {
-        Outcome::Done => false,
-        Outcome::Refused(_) => true,
+        Ok(()) => false,
+        Err(_) => true,
     }
 }
 

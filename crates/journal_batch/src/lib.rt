@@ -3,6 +3,7 @@
 #![tactic(auto)]
 
 ghost use Rattle.std.specs.Prelude.{◌≡◌, true, cond, ◌<◌, replicate};
+ghost use Rattle.base_refusal.specs.Number.{outcome_number};
 ghost use Rattle.block_layout.specs.Block.{block_length};
 ghost use Rattle.archive_fill.specs.Claims.{with_block};
 ghost use Rattle.journal_model.specs.Disk.{whole_blocks};
@@ -32,9 +33,9 @@ pub fn commit(
     last: &mut [u8; BLOCK_LENGTH],
     file: &mut [u8],
     state: &mut [u8; LENGTH],
-) -> u8
+) -> Result<(), Refusal>
     ensures { record {
-      number = result;
+      number = outcome_number result;
       last = last.new;
       archive = file.new;
       state = state.new;
@@ -43,33 +44,22 @@ pub fn commit(
         (λ block. kept numbers.now name.now block image.now tail.now)
         last.old file.old state.old }
 {
-    let mut agreed = 0;
-    let mut going = 0;
-    let compared = rows::compare(times, records, moments, left, &mut agreed, &mut going);
-    if compared != 0 {
-        return compared;
-    }
-    if going != 0 {
-        return base_refusal::number(Refusal::Mismatch);
+    let compared = rows::compare(times, records, moments, left)?;
+    if compared.going != 0 {
+        return Err(Refusal::Mismatch);
     }
     let mut block = [0u8; BLOCK_LENGTH];
-    let filled = fill(&mut block, last, count, times, records);
-    if filled != 0 {
-        return filled;
-    }
-    let added = agreed < times.len();
+    fill(&mut block, last, count, times, records)?;
+    let added = compared.agreed < times.len();
     if added & (file.len() / BLOCK_LENGTH <= count / CELLS_PER_BLOCK) {
-        return base_refusal::number(Refusal::ShortOutput);
+        return Err(Refusal::ShortOutput);
     }
     let mut next = [0u8; LENGTH];
-    let written = journal_state::write(numbers, name, &block, image, tail, &mut next);
-    if written != 0 {
-        return written;
-    }
+    journal_state::write(numbers, name, &block, image, tail, &mut next)?;
     put_block(file, count / CELLS_PER_BLOCK, &block, added);
-    copy_block(last, &block);
-    copy_state(state, &next);
-    0
+    *last = block;
+    *state = next;
+    Ok(())
 }
 
 // The block with the new rows: a blank one if the last one is full, else the copy of the last one.
@@ -79,30 +69,36 @@ fn fill(
     count: usize,
     times: &[u64],
     records: &[u8],
-) -> u8
+) -> Result<(), Refusal>
     requires { block.old ≡ replicate block_length 0 }
-    ensures { record { number = result; block = block.new }
+    ensures { record { number = outcome_number result; block = block.new }
         ≡ filled_of last.now count times.now records.now }
 {
     if times.len() == 0 {
-        block_layout::put_bytes(block, last);
-        return 0;
+        *block = *last;
+        return Ok(());
     }
     if count % CELLS_PER_BLOCK == 0 {
         return put(block, count, times, records);
     }
-    block_layout::put_bytes(block, last);
+    *block = *last;
     put(block, count, times, records)
 }
 
-// Puts rows into a block, and returns the number of the answer.
-fn put(block: &mut [u8; BLOCK_LENGTH], count: usize, times: &[u64], records: &[u8]) -> u8
-    ensures { record { number = result; block = block.new }
+// Puts rows into a block.
+fn put(
+    block: &mut [u8; BLOCK_LENGTH],
+    count: usize,
+    times: &[u64],
+    records: &[u8],
+) -> Result<(), Refusal>
+    ensures { record { number = outcome_number result; block = block.new }
         ≡ batch_put_of block.old count times.now records.now }
 {
-    let filled = archive_fill::put_rows(block, count, times, records);
-    let answer = filled.answer;
-    base_refusal::outcome_number(answer)
+    match archive_fill::put_rows(block, count, times, records) {
+        Ok(()) => Ok(()),
+        Err(e) => Err(e.why),
+    }
 }
 
 // Writes a block of the archive, if it has new rows.
@@ -115,19 +111,5 @@ fn put_block(file: &mut [u8], at: usize, block: &[u8; BLOCK_LENGTH], added: bool
         return;
     }
     let from = BLOCK_LENGTH * at;
-    block_layout::put_bytes(&mut file[from..from + BLOCK_LENGTH], block);
-}
-
-// Copies a block over another.
-fn copy_block(out: &mut [u8; BLOCK_LENGTH], block: &[u8; BLOCK_LENGTH])
-    ensures { out.new ≡ block.now }
-{
-    block_layout::put_bytes(out, block);
-}
-
-// Copies a state file over another.
-fn copy_state(out: &mut [u8; LENGTH], bytes: &[u8; LENGTH])
-    ensures { out.new ≡ bytes.now }
-{
-    block_layout::put_bytes(out, bytes);
+    file[from..from + BLOCK_LENGTH].copy_from_slice(block);
 }

@@ -1,5 +1,4 @@
 -- Rows that are compared with leftovers.
---     records-other, records-same                              a record for each time
 --     same-time, same_length, same-loose, same_bytes           the cases of `same_row`, each from the facts that its
 -- tests give
 --     agree-next, agree-stop, agree-end                        the loop over the rows
@@ -26,23 +25,7 @@ use Rattle.archive_model.specs.Row.{Row}
 use Rattle.archive_model.specs.Append.{no_row}
 use Rattle.archive_fill.specs.Fill.{row_length, row_given, rows_given}
 use Rattle.journal_model.specs.Disk as disk
-use Rattle.journal_calls.specs.Rows.{compared_rows, compare_call}
-
--- ---- records
-
-module _ (times records : ℕ) where
-  pub records-other : (records / row_length ≡ times → ⊥) → false ≡ eqb records (row_length * times)
-  records-other h =
-      let other : records ≡ row_length * times → ⊥ = λ e. h (omega arith) in
-      sym (ne_eqb records (row_length * times) other)
-
-  pub records_same : records / row_length ≡ times → eqb (records % row_length) 0 ≡ eqb records (row_length * times)
-  records_same e =
-      by_test (eqb (records % row_length) 0)
-      (λ t.
-      let z : records % row_length ≡ 0 = eqb-true (records % row_length) 0 t in
-      t ∙ sym (eq-eqb records (row_length * times) (omega arith)))
-      (λ t. t ∙ sym (ne_eqb records (row_length * times) (λ s. eqb-false (records % row_length) 0 t (omega arith))))
+use Rattle.journal_calls.specs.Rows.{Compared, compared_rows, compare_call}
 
 -- ---- two rows
 
@@ -161,6 +144,10 @@ module _ (new left : List Row) (i : ℕ) where
       ap (disk.agreeing (drop i new)) (drop_of_length-le left z) ∙ none_left (drop i new))
 
 -- ---- the call
+
+-- a number beside both counts
+abbrev pub beside : ℕ → ℕ → ℕ → Compared
+beside agreed going number = record { number = number; agreed = agreed; going = going }
 
 module _ (times records moments left : List ℕ) (agreed going : ℕ) where
   pub compare_new : eqb (length records) (row_length * length times) ≡ false

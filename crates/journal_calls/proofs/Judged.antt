@@ -1,3 +1,4 @@
+use Rattle.std.specs.Prelude.{Result, Ok, Err, ⊤, is_ok}
 -- The block with the last row that a state counts.
 --     copy_is, copy-size, copy_told                                       a block that is cut to its first rows, and
 -- compared
@@ -10,24 +11,32 @@ use mathlib.Core.Bool.{Bool, true, false, ◌&&◌}
 use mathlib.Core.List.{List}
 use lib.Dec.{eqb}
 use lib.ListN.{length}
+use borrow.Author.Tests.{ne_eqb}
 use Rattle.base_lists.specs.Lists.{equal}
 use Rattle.base_lists.proofs.Tests.{by_test}
 use Rattle.base_refusal.specs.Number.{number_of}
+use Rattle.base_refusal.proofs.Numbers.{refused-number}
 use Rattle.base_refusal.specs.declared.Refusal.TheVariants.{Size}
 use Rattle.block_layout.specs.Block.{block_length}
 use Rattle.archive_model.specs.Row.{row_count, is_sound, is_blank}
 use Rattle.archive_model.proofs.Exact.{tests}
-use Rattle.base_refusal.specs.declared.Outcome.{Outcome}
 use Rattle.archive_file.specs.Archive.{sound_count}
 use Rattle.archive_cut.specs.Cut.{CutBlock, cut_block_of}
 use Rattle.archive_cut.specs.Calls.{cut_block_result}
 use Rattle.archive_cut.proofs.Blocks.{block_size}
 use Rattle.journal_calls.specs.declared.Judgement.TheVariants.{Same, Longer, Torn, Other}
 use Rattle.journal_calls.specs.Block.{is_cut_copy_of, judgement_of}
+use Rattle.base_refusal.specs.declared.Refusal.{Refusal}
 
 -- what a cut block says of a copy
 abbrev pub says : List ℕ → CutBlock → Bool
 says last cut = eqb cut.number 0 && equal cut.block last
+
+-- a block that could not be cut is no copy
+pub says_cut : (last : List ℕ) (r : Result ⊤ Refusal) (after : List ℕ)
+    → is_ok r && equal after last ≡ says last (cut_block_result r after)
+says_cut last (Ok tt) after = refl
+says_cut last (Err why) after = rw (ne_eqb (number_of why) 0 (refused-number why))
 
 pub sound_none : (b : List ℕ) → sound_count b ≡ 0 → is_sound b ≡ false
 sound_none b e =
@@ -45,7 +54,8 @@ module _ (last : List ℕ) (m : ℕ) (block : List ℕ) where
   pub copy-size : (length block ≡ block_length → ⊥) → false ≡ is_cut_copy_of last m block
   copy-size h = copy_is (record { number = number_of Size; block = block }) (block_size m block h)
 
-  pub copy_told : (r : Outcome) (cut after : List ℕ) → cut ≡ block → cut_block_result r after ≡ cut_block_of m cut
+  pub copy_told : (r : (Result ⊤ Refusal)) (cut after : List ℕ) → cut ≡ block
+      → cut_block_result r after ≡ cut_block_of m cut
       → says last (cut_block_result r after) ≡ is_cut_copy_of last m block
   copy_told r cut after e h = copy_is (cut_block_result r after) (h ∙ ap (cut_block_of m) e)
 

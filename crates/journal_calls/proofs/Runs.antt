@@ -3,30 +3,27 @@
 --     RunFacts, run-facts, run-limit, run-place, run-many, run-dense      what `is_run` says
 --     block-ended, block-unsound, block-number, block-passed              one block more: the cases of `run_block`
 --     block-next                                                           it leaves the numbers of a run
---     rest-first, rest-next, rest-none                                     the loop over the blocks
+--     run-next, run-none                                                   the loop over the blocks
 --     feed-not, feed-odd, feed-many, feed-done                             the cases of `run_call`
-use Prim.Native.Nat.{ℕ, suc, ◌+◌, ◌-◌, ◌*◌, ◌/◌, ◌%◌, ◌≤◌, ◌<◌}
+use Prim.Native.Nat.{ℕ, ◌+◌, ◌*◌, ◌/◌, ◌%◌, ◌≤◌, ◌<◌}
 use native.Mathlib.Nat.{mod-lt}
-use native.Mathlib.Numerals.{add-one}
 use native.Mathlib.Omega.{arith}
 use mathlib.Core.Path.{◌≡◌, sym, ap, ◌∙◌}
 use mathlib.Core.Bool.{Bool, true, false, ◌&&◌, false≢true}
-use mathlib.Core.List.{List}
+use mathlib.Core.List.{List, ◌++◌}
 use lib.Dec.{ltb, leb, eqb}
 use lib.ListN.{length}
 use borrow.Author.Tests.{leb-true, ltb-true, ltb-false, eq-eqb, ne_eqb, lt-ltb, le-ltb, le-leb, lt-leb}
-use Rattle.base_lists.specs.Lists.{up_from}
 use Rattle.base_lists.proofs.Choice.{both}
 use Rattle.base_lists.proofs.Tests.{by_test, branch}
 use Rattle.base_refusal.specs.Number.{number_of}
 use Rattle.base_refusal.specs.declared.Refusal.TheVariants.{NotAccepted, Size}
-use Rattle.base_buffers.specs.Buffer.{part}
 use Rattle.block_layout.specs.Block.{cells_per_block, block_length}
 use Rattle.archive_model.specs.Row.{block_number, row_count, is_sound}
 use Rattle.archive_model.specs.Buffer.{max_blocks, blocks_in}
 use Rattle.archive_model.proofs.Exact.{tests}
 use Rattle.archive_file.specs.Archive.{sound_count}
-use Rattle.archive_file.proofs.Scans.{blocks_from}
+use Rattle.archive_file.proofs.Scans.{blocks_none, blocks_next}
 use Rattle.journal_calls.specs.Run.{Run, stopped, passed, run_block, run_blocks, is_dense, is_run, run_at, run_numbers, RunCall, run_call}
 use Rattle.journal_calls.proofs.Judged.{sound_none, sound_some}
 
@@ -213,27 +210,14 @@ module _ (r : Run) (b : List ℕ) where
 
 -- ---- the loop
 
-module _ (piece : List ℕ) where
-  pub rest_first : (n : ℕ) → n ≡ length piece / block_length → blocks_from piece 0 (n - 0) ≡ blocks_in piece
-  unfolding blocks_from blocks_in
-  rest_first n e =
-      let z : n - 0 ≡ length piece / block_length = omega arith in
-      rw z
+pub run_next : (r : Run) (block rest : List ℕ) → length block ≡ block_length
+    → run_blocks r (blocks_in (block ++ rest)) ≡ run_blocks (run_block r block) (blocks_in rest)
+unfolding run_blocks
+run_next r block rest h = ap (run_blocks r) (blocks_next block rest h)
 
-  pub rest_next : (r : Run) (n i : ℕ) → i < n
-      → run_blocks r (blocks_from piece i (n - i))
-      ≡ run_blocks (run_block r (part (block_length * i) block_length piece))
-      (blocks_from piece (i + 1) (n - (i + 1)))
-  unfolding blocks_from up_from run_blocks
-  rest_next r n i h =
-      let e : n - i ≡ suc (n - (i + 1)) = omega arith in
-      rw (e, add-one)
-
-  pub rest_none : (r : Run) (n i : ℕ) → n ≤ i → run_blocks r (blocks_from piece i (n - i)) ≡ r
-  unfolding blocks_from up_from run_blocks
-  rest_none r n i h =
-      let e : n - i ≡ 0 = omega arith in
-      rw e
+pub run_none : (r : Run) (rest : List ℕ) → length rest < block_length → run_blocks r (blocks_in rest) ≡ r
+unfolding run_blocks
+run_none r rest h = ap (run_blocks r) (blocks_none rest h)
 
 -- ---- the call
 

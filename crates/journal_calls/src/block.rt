@@ -4,7 +4,6 @@ ghost use Rattle.archive_model.specs.Row.{block_number};
 ghost use Rattle.journal_calls.specs.Block.{is_cut_copy_of, judgement_of, judgement_number};
 
 use crate::Judgement;
-use base_refusal::Outcome;
 use block_layout::BLOCK_LENGTH;
 
 // Judges the block, of which the state has a copy and counts the first `rows` rows.
@@ -27,14 +26,16 @@ pub fn judge(last: &[u8], rows: usize, block: &[u8]) -> Judgement
 }
 
 // The number of a judgement for other languages.
-pub fn number(j: Judgement) -> u8
-    ensures { result ≡ judgement_number j }
-{
-    match j {
-        Judgement::Same => 0,
-        Judgement::Longer => 1,
-        Judgement::Torn => 2,
-        Judgement::Other => 3,
+impl From<Judgement> for u8 {
+    ghost from_gives = { λ j n. n ≡ judgement_number j };
+
+    fn from(j: Judgement) -> u8 {
+        match j {
+            Judgement::Same => 0,
+            Judgement::Longer => 1,
+            Judgement::Torn => 2,
+            Judgement::Other => 3,
+        }
     }
 }
 
@@ -56,10 +57,6 @@ fn is_copy(last: &[u8], rows: usize, block: &[u8]) -> bool
         return false;
     }
     let mut cut = [0u8; BLOCK_LENGTH];
-    block_layout::put_bytes(&mut cut, block);
-    let answer = archive_cut::cut_block(&mut cut, rows);
-    match answer {
-        Outcome::Done => block_layout::equal(&cut, last),
-        Outcome::Refused(_) => false,
-    }
+    cut.copy_from_slice(block);
+    archive_cut::cut_block(&mut cut, rows).is_ok() && block_layout::equal(&cut, last)
 }

@@ -8,7 +8,7 @@ pub mod scan;
 
 // The block with the last row that a state counts: it is the state's copy; it is the copy with more rows after it; a write of it was torn; or it
 // belongs to another archive.
-#[derive(Clone, Copy)]
+#[derive(Clone, Copy, Debug, PartialEq, Eq)]
 pub enum Judgement {
     Same,
     Longer,
@@ -18,7 +18,7 @@ pub enum Judgement {
 
 // Blocks that are read as an archive in files of `limit` blocks: the number that the next one must have, how many were read, how many rows they have,
 // and whether the run has ended.
-#[derive(Clone, Copy)]
+#[derive(Clone, Copy, Debug, PartialEq, Eq)]
 pub struct Run {
     pub limit: usize,
     pub place: usize,

@@ -1,8 +1,9 @@
 // How many blocks read as an archive, in pieces of whole blocks: each one is sound and has the right number, and only the last one may be short.
-ghost use Rattle.std.specs.Prelude.{◌≡◌, true, cond, ◌+◌, ◌/◌, ◌≤◌, ◌<◌, length};
+ghost use Rattle.std.specs.Prelude.{◌≡◌, true, ◌+◌, ◌/◌, ◌≤◌, ◌<◌, length};
+ghost use Rattle.base_refusal.specs.Number.{outcome_number};
 ghost use Rattle.block_layout.specs.Block.{block_length};
 ghost use Rattle.archive_model.specs.Buffer.{blocks_in, max_blocks};
-ghost use Rattle.journal_calls.specs.Run.{run_of, run_at, run_numbers, is_dense, is_run, stopped, run_block, run_blocks, run_call};
+ghost use Rattle.journal_calls.specs.Run.{run_of, run_at, run_numbers, is_dense, is_run, run_block, run_blocks, run_call};
 
 use crate::{Run, block};
 use archive_file::MAX_BLOCKS;
@@ -15,50 +16,54 @@ pub const NUMBERS: usize = 5;
 
 // Reads the blocks of a piece. Refused: 11 for numbers that no run has, 16 for a piece that isn't whole blocks, or if there are then more than 2^32
 // blocks; then every number is unchanged.
-pub fn feed(numbers: &mut [u64; NUMBERS], piece: &[u8]) -> u8
-    ensures { record { number = result; numbers = numbers.new }
+pub fn feed(numbers: &mut [u64; NUMBERS], piece: &[u8]) -> Result<(), Refusal>
+    ensures { record { number = outcome_number result; numbers = numbers.new }
         ≡ run_call numbers.old piece.now }
 {
-    let r = run_in(numbers);
+    let r = Run::from(*numbers);
     if !is_run(r) {
-        return base_refusal::number(Refusal::NotAccepted);
+        return Err(Refusal::NotAccepted);
     }
     if piece.len() % BLOCK_LENGTH != 0 {
-        return base_refusal::number(Refusal::Size);
+        return Err(Refusal::Size);
     }
     let passed = r.blocks;
     if MAX_BLOCKS < passed + piece.len() / BLOCK_LENGTH {
-        return base_refusal::number(Refusal::Size);
+        return Err(Refusal::Size);
     }
     let next = run_blocks(r, piece);
-    store(next, numbers);
-    0
+    *numbers = next.into();
+    Ok(())
 }
 
 // The run in five numbers.
-fn run_in(numbers: &[u64; NUMBERS]) -> Run
-    ensures { run_of result ≡ run_at numbers.now }
-{
-    Run {
-        limit: numbers[0] as usize,
-        place: numbers[1] as usize,
-        blocks: numbers[2] as usize,
-        rows: numbers[3] as usize,
-        ended: numbers[4] != 0,
+impl From<[u64; NUMBERS]> for Run {
+    ghost from_gives = { λ numbers r. run_of r ≡ run_at numbers };
+
+    fn from(numbers: [u64; NUMBERS]) -> Run {
+        Run {
+            limit: numbers[0] as usize,
+            place: numbers[1] as usize,
+            blocks: numbers[2] as usize,
+            rows: numbers[3] as usize,
+            ended: numbers[4] != 0,
+        }
     }
 }
 
-// Writes the numbers of a run.
-fn store(r: Run, numbers: &mut [u64; NUMBERS])
-    ensures { numbers.new ≡ run_numbers (run_of r) }
-{
-    *numbers = [
-        r.limit as u64,
-        r.place as u64,
-        r.blocks as u64,
-        r.rows as u64,
-        bit(r.ended),
-    ];
+// The numbers of a run.
+impl From<Run> for [u64; NUMBERS] {
+    ghost from_gives = { λ r numbers. numbers ≡ run_numbers (run_of r) };
+
+    fn from(r: Run) -> [u64; NUMBERS] {
+        [
+            r.limit as u64,
+            r.place as u64,
+            r.blocks as u64,
+            r.rows as u64,
+            u64::from(r.ended),
+        ]
+    }
 }
 
 // Whether some blocks give this run.
@@ -100,11 +105,8 @@ fn run_blocks(r: Run, piece: &[u8]) -> Run
     ensures { run_of result ≡ run_blocks (run_of r) (blocks_in piece.now) }
 {
     let mut at = r;
-    for i in 0..piece.len() / BLOCK_LENGTH {
-        at = run_block(
-            at,
-            &piece[BLOCK_LENGTH * i..BLOCK_LENGTH * i + BLOCK_LENGTH],
-        );
+    for block in piece.chunks_exact(BLOCK_LENGTH) {
+        at = run_block(at, block);
     }
     at
 }
@@ -121,10 +123,10 @@ fn run_block(r: Run, block: &[u8]) -> Run
     let place = r.place;
     let used = archive_file::sound(block);
     if used == 0 {
-        return end(r);
+        return Run { ended: true, ..r };
     }
     if block::number_of(block) != place as u64 {
-        return end(r);
+        return Run { ended: true, ..r };
     }
     Run {
         limit,
@@ -133,26 +135,4 @@ fn run_block(r: Run, block: &[u8]) -> Run
         rows: r.rows + used,
         ended: used < CELLS_PER_BLOCK,
     }
-}
-
-// The run ends before a block.
-fn end(r: Run) -> Run
-    ensures { run_of result ≡ stopped (run_of r) }
-{
-    Run {
-        limit: r.limit,
-        place: r.place,
-        blocks: r.blocks,
-        rows: r.rows,
-        ended: true,
-    }
-}
-
-fn bit(b: bool) -> u64
-    ensures { result ≡ cond b 1 0 }
-{
-    if b {
-        return 1;
-    }
-    0
 }

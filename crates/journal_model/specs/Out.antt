@@ -1,8 +1,7 @@
 -- The file of `--out`, which has the rows as text. The state has its length and the number of lines that were taken, so
 -- both are replaced in one step.
-use Rattle.std.specs.Prelude.{ℕ, ◌+◌, ◌≤◌, ◌≡◌, cond, not, ◌&&◌, List, [], ◌∷◌, ◌++◌, eqb, length, take, drop}
+use Rattle.std.specs.Prelude.{ℕ, ◌+◌, ◌≤◌, ◌≡◌, cond, not, ◌&&◌, List, [], ◌∷◌, ◌++◌, eqb, length, take, drop, Option, Some, None}
 use Rattle.collector_model.specs.Reference.{log_of, model_view}
-use Rattle.text_lines.specs.declared.Setting.{Setting}
 use Rattle.text_lines.specs.Reading.{line_reading, setting_of}
 use Rattle.text_rows.specs.declared.formats.Format.{Format}
 use Rattle.text_rows.specs.Formats.{heading_in}
@@ -100,9 +99,9 @@ OnceInFile =
 -- ---- the formats
 
 -- a first line that says a level prints nothing; any other prints what a later line prints
-abbrev pub unless_level : Setting → List ℕ → List ℕ
-unless_level (Setting.Level n) row = []
-unless_level Setting.Bad row = row
+abbrev pub unless_level : Option ℕ → List ℕ → List ℕ
+unless_level (Some n) row = []
+unless_level None row = row
 
 -- what a line prints after other lines in a format, by the reference model
 abbrev pub row_after_lines : Format → (setting : ℕ) → List (List ℕ) → List ℕ → List ℕ
@@ -114,7 +113,7 @@ row_after_lines f setting before l =
 -- First line silent: nothing is printed for a first line that says a level.
 abbrev pub FirstLineSilent : Type 0
 FirstLineSilent =
-    (f : Format) (setting level : ℕ) (l : List ℕ) → setting_of l ≡ Setting.Level level
+    (f : Format) (setting level : ℕ) (l : List ℕ) → setting_of l ≡ Some level
     → row_after_lines f setting [] l ≡ []
 
 -- Once in format: the same for the rows of a format, with its heading.

@@ -1,3 +1,4 @@
+use Rattle.std.specs.Prelude.{Ok, Err}
 -- The blocks up to the last counted one, as a start finds them.
 --     lost-short, lost-rows, lost-damaged, lost-refused, lost-there      the cases of `lost_at`
 --     found_none, found-lost, found-judged                   the cases of `FoundAs`
@@ -16,7 +17,6 @@ use Rattle.base_refusal.specs.declared.Refusal.{Refusal}
 use Rattle.block_layout.specs.Block.{cells_per_block, block_length}
 use Rattle.archive_model.specs.Buffer.{blocks_for, max_blocks, max_rows, rows_in}
 use Rattle.archive_model.specs.Append.{open_of, verdict, block_at}
-use Rattle.archive_file.specs.declared.Opened.TheVariants.{Rows, Damaged, Refused}
 use Rattle.archive_file.specs.Archive.{open_result}
 use Rattle.archive_file.proofs.Calls.{opened_rows, opened-damaged, opened-refused}
 use Rattle.journal_model.specs.Disk.{State, counted, used_blocks, last_used, is_lost, is_other}
@@ -26,6 +26,7 @@ use Rattle.journal_calls.specs.Block.{judgement_of, judgement_number}
 use Rattle.journal_calls.specs.Claims.{mended_by, judged}
 use Rattle.journal_calls.proofs.Claims.{judged-right}
 use Rattle.journal_recovery.specs.Private.{Says, lost_at, FoundAs}
+use Rattle.archive_file.specs.declared.ArchiveError.{ArchiveError}
 
 module _ (at : ℕ) (file : List ℕ) where
   abbrev front : List ℕ
@@ -40,16 +41,17 @@ module _ (at : ℕ) (file : List ℕ) where
     enough : leb (block_length * (at + 1)) (length file) ≡ true
     enough = le-leb (block_length * (at + 1)) (length file) (omega arith)
 
-    pub lost_rows : (n : ℕ) → open_result (Rows n) ≡ open_of front
+    pub lost_rows : (n : ℕ) → open_result (Ok n) ≡ open_of front
         → not (eqb n (cells_per_block * at)) ≡ lost_at at file
     lost_rows n e =
         let o = opened_rows front n e in
         ap (λ (k : ℕ). not (eqb k (cells_per_block * at))) o.1 ∙ rw (enough, eq-eqb (verdict front).number 0 o.0)
 
-    pub lost_damaged : (k : ℕ) → open_result (Damaged k) ≡ open_of front → true ≡ lost_at at file
+    pub lost_damaged : (k : ℕ) → open_result (Err (ArchiveError.Damaged k)) ≡ open_of front → true ≡ lost_at at file
     lost_damaged k e = rw (enough, (opened-damaged front k e).2)
 
-    pub lost_refused : (why : Refusal) → open_result (Refused why) ≡ open_of front → true ≡ lost_at at file
+    pub lost_refused : (why : Refusal) → open_result (Err (ArchiveError.Refused why)) ≡ open_of front
+        → true ≡ lost_at at file
     lost_refused why e = rw (enough, (opened-refused front why e).2)
 
   -- it is there

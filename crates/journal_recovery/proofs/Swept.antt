@@ -134,3 +134,10 @@ module _ (at : ℕ) (file : List ℕ) (inside : at ≤ whole_blocks file) where
           blocks = ap (λ (x : List ℕ). get_or x 2 0) l ∙ ap (λ (x : Run). x.blocks) end_is ∙ counts.1;
           count = ap (λ (x : List ℕ). get_or x 3 0) l ∙ ap (λ (x : Run). x.rows) end_is ∙ counts.0;
         }
+
+    -- the scan is not refused, and its run ends within the file
+    pub scan_done : (r : RunCall) → r ≡ run_call numbers piece → r.number ≡ 0
+    scan_done r e = ap (λ (c : RunCall). c.number) (e ∙ sym scan_is)
+
+    pub scan_end : (r : RunCall) → r ≡ run_call numbers piece → at + get_or r.numbers 2 0 ≤ m
+    scan_end r e = omega (arith, (scanned r e).blocks, run_inside)

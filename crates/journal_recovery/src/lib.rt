@@ -3,6 +3,7 @@
 #![tactic(auto)]
 
 ghost use Rattle.std.specs.Prelude.{◌≡◌, [], ◌+◌, ◌-◌, ◌≤◌, ◌<◌, length, get_or};
+ghost use Rattle.base_refusal.specs.Number.{outcome_number};
 ghost use Rattle.block_layout.specs.Block.{block_length};
 ghost use Rattle.archive_model.specs.Buffer.{blocks_for, max_blocks, max_rows};
 ghost use Rattle.archive_model.specs.Append.{block_at};
@@ -14,7 +15,7 @@ ghost use Rattle.journal_state.specs.Lawful.{image_rows};
 ghost use Rattle.journal_recovery.specs.Start.{is_one_file, start_result};
 ghost use Rattle.journal_recovery.specs.Private.{IsCounted, lost_at, Finds, IsThere, Sweeps, Settles};
 
-use archive_file::{MAX_BLOCKS, Opened};
+use archive_file::MAX_BLOCKS;
 use base_refusal::Refusal;
 use block_layout::{BLOCK_LENGTH, CELLS_PER_BLOCK};
 use collector_checkpoint::IMAGE_LENGTH;
@@ -25,31 +26,28 @@ use journal_state::{NAME_LENGTH, NUMBERS, TAIL_LENGTH, lawful};
 // and clears what comes after them. Refused: 16 for an archive of more than 2^32 blocks; 16 and 11 as `accept` answers; 10 for a state without an
 // archive, or if the collector had counted rows when the file began; 12 for an archive that is not the state's; then everything is unchanged. In
 // every case, bytes after the last whole block are unchanged.
-pub fn start(state: &[u8], file: &mut [u8], left: &mut usize) -> u8
-    ensures { record { number = result; archive = file.new; left = left.new }
+pub fn start(state: &[u8], file: &mut [u8], left: &mut usize) -> Result<(), Refusal>
+    ensures { record { number = outcome_number result; archive = file.new; left = left.new }
         ≡ start_result state.now file.old left.old }
 {
     if MAX_BLOCKS < file.len() / BLOCK_LENGTH {
-        return base_refusal::number(Refusal::Size);
+        return Err(Refusal::Size);
     }
     let mut numbers = [0u64; NUMBERS];
     let mut name = [0u8; NAME_LENGTH];
     let mut last = [0u8; BLOCK_LENGTH];
     let mut image = [0u8; IMAGE_LENGTH];
     let mut tail = [0u8; TAIL_LENGTH];
-    let number = journal_state::accept(
+    journal_state::accept(
         state,
         &mut numbers,
         &mut name,
         &mut last,
         &mut image,
         &mut tail,
-    );
-    if number != 0 {
-        return number;
-    }
+    )?;
     if !is_one_file(&numbers) {
-        return base_refusal::number(Refusal::Argument);
+        return Err(Refusal::Argument);
     }
     let rows = counted(&numbers, &image);
     settle(file, rows, &last, left)
@@ -67,34 +65,36 @@ fn counted(numbers: &[u64; NUMBERS], image: &[u8; IMAGE_LENGTH]) -> usize
     requires { IsCounted numbers.now image.now }
     ensures { result ≡ get_or numbers.now 2 0 + image_rows image.now }
 {
-    let seen = lawful::rows_of(image);
+    let seen = lawful::rows_of(image).unwrap();
     let had = numbers[2];
-    (had + seen.rows) as usize
+    (had + seen) as usize
 }
 
 // The same for a state that counts `rows` rows, and has a copy of the block with the last of them.
-fn settle(file: &mut [u8], rows: usize, last: &[u8; BLOCK_LENGTH], left: &mut usize) -> u8
+fn settle(
+    file: &mut [u8],
+    rows: usize,
+    last: &[u8; BLOCK_LENGTH],
+    left: &mut usize,
+) -> Result<(), Refusal>
     requires { (rows ≤ max_rows) × (whole_blocks file.old ≤ max_blocks) × (length last.now ≡ block_length) }
     ensures { Settles rows last.now file.old left.old
-        (record { number = result; archive = file.new; left = left.new }) }
+        (record { number = outcome_number result; archive = file.new; left = left.new }) }
 {
     let found = find(file, rows, last);
-    if block::number(found) == 3 {
-        return base_refusal::number(Refusal::Mismatch);
+    if let Judgement::Other = found {
+        return Err(Refusal::Mismatch);
     }
     mend(file, last_used(rows), last, found);
     *left = sweep(file, rows);
-    0
+    Ok(())
 }
 
 // The number of the block with the last row that is counted.
 fn last_used(rows: usize) -> usize
     ensures { result ≡ blocks_for rows - 1 }
 {
-    if rows == 0 {
-        return 0;
-    }
-    (rows - 1) / CELLS_PER_BLOCK
+    rows.saturating_sub(1) / CELLS_PER_BLOCK
 }
 
 // Judges that block by the state's copy. It is another archive's if blocks before it are not full and sound.
@@ -125,11 +125,9 @@ fn is_lost(file: &[u8], at: usize) -> bool
     if file.len() / BLOCK_LENGTH <= at {
         return true;
     }
-    let opened = archive_file::open(&file[0..BLOCK_LENGTH * at]);
-    match opened {
-        Opened::Rows(n) => n != CELLS_PER_BLOCK * at,
-        Opened::Damaged(_) => true,
-        Opened::Refused(_) => true,
+    match archive_file::open(&file[0..BLOCK_LENGTH * at]) {
+        Ok(n) => n != CELLS_PER_BLOCK * at,
+        Err(_) => true,
     }
 }
 
@@ -139,14 +137,9 @@ fn mend(file: &mut [u8], at: usize, last: &[u8; BLOCK_LENGTH], found: Judgement)
     ensures { file.new
         ≡ with_block at (mended_by found last.now (block_at at file.old)) file.old }
 {
-    match found {
-        Judgement::Same => {}
-        Judgement::Longer => {}
-        Judgement::Torn => {
-            let from = BLOCK_LENGTH * at;
-            block_layout::put_bytes(&mut file[from..from + BLOCK_LENGTH], last);
-        }
-        Judgement::Other => {}
+    if let Judgement::Torn = found {
+        let from = BLOCK_LENGTH * at;
+        file[from..from + BLOCK_LENGTH].copy_from_slice(last);
     }
 }
 
@@ -158,18 +151,8 @@ fn sweep(file: &mut [u8], rows: usize) -> usize
     let at = last_used(rows);
     let end = BLOCK_LENGTH * (file.len() / BLOCK_LENGTH);
     let mut run = [MAX_BLOCKS as u64, at as u64, 0, 0, 0];
-    scan::feed(&mut run, &file[BLOCK_LENGTH * at..end]);
+    scan::feed(&mut run, &file[BLOCK_LENGTH * at..end]).unwrap();
     let behind = at + run[2] as usize;
     block_layout::clear(&mut file[BLOCK_LENGTH * behind..end]);
-    beyond(run[3] as usize, rows - CELLS_PER_BLOCK * at)
-}
-
-// How many rows there are after the first ones.
-fn beyond(rows: usize, first: usize) -> usize
-    ensures { result ≡ rows - first }
-{
-    if rows < first {
-        return 0;
-    }
-    rows - first
+    (run[3] as usize).saturating_sub(rows - CELLS_PER_BLOCK * at)
 }

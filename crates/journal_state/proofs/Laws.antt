@@ -1,10 +1,11 @@
+use Rattle.std.specs.Prelude.{Result, Ok, Err, Option, Some, None}
 -- A lawful state, by what the code tests.
 --     last_none, last-unsound, last_some                       the block with the last row
 --     file-early, file-many, file-last                         the archive's file
 --     name-long, name-dirty, name-none, name-some              its name
 --     tail-long, tail-dirty, tail_none, tail-some              the place in the log
 --     out_none, out_some                                       the file for rows
---     held, counts-refused, counts-restored, rows-counted, rows_fit       the rows that an image counts
+--     held, counts-refused, counts-restored, rows_fit       the rows that an image counts
 --     law-image, law-archive, law-log, law-out                 all of them; file-alone and so on: each looks at its
 -- part alone
 use Prim.Native.Nat.{ℕ, ◌+◌, ◌-◌, ◌/◌, ◌%◌, ◌≤◌, ◌<◌, min}
@@ -17,7 +18,7 @@ use borrow.Author.Tests.{eqb-true, eq-eqb, ne_eqb, le-leb, lt-leb}
 use Rattle.base_lists.specs.Lists.{all, pairwise}
 use Rattle.base_lists.proofs.Choice.{both}
 use Rattle.base_lists.proofs.Tests.{by_test}
-use Rattle.base_refusal.specs.Number.{number_of, outcome_number}
+use Rattle.base_refusal.specs.Number.{number_of}
 use Rattle.base_refusal.specs.declared.Refusal.{Refusal}
 use Rattle.base_refusal.specs.declared.Refusal.TheVariants.{NotAccepted}
 use Rattle.base_refusal.proofs.Numbers.{refused-number}
@@ -29,9 +30,7 @@ use Rattle.collector_model.specs.Acceptable.{is_entry, may_follow, is_summed, ac
 use Rattle.collector_model.specs.Image.{image_length, RestoreResult, setting_in, totals_in, parse, accepts, restore_of}
 use Rattle.collector_model.proofs.Invariant.{good_fresh, good_acceptable}
 use Rattle.collector_state.specs.declared.Collector.{Collector}
-use Rattle.collector_state.specs.Collector.{view_of}
-use Rattle.collector_checkpoint.specs.declared.Restored.{Restored}
-use Rattle.base_refusal.specs.declared.Outcome.TheVariants.{Done, Refused}
+use Rattle.collector_state.specs.Collector.{view_of, next_number, next_in}
 use Rattle.collector_checkpoint.specs.Checkpoint.{restore_result, Restores}
 use Rattle.archive_model.specs.Row.{block_number, row_count, is_blank}
 use Rattle.archive_model.specs.Buffer.{max_rows}
@@ -39,6 +38,7 @@ use Rattle.archive_file.specs.Archive.{sound_count}
 use Rattle.journal_calls.proofs.Judged.{sound_none, sound_some}
 use Rattle.journal_state.specs.State.{Kept, kept, nth, began, had, file_number, name_length, logged, offset, tail_length, printed, max_name, max_tail}
 use Rattle.journal_state.specs.Lawful.{image_rows, is_last_of, is_file, is_attached, is_placed, is_printed, is_lawful_state}
+use Rattle.journal_state.specs.Calls.{counted_by}
 
 -- ---- the block with the last row
 
@@ -201,37 +201,52 @@ stays : (image : List ℕ) → accepts image ≡ false → restore_of fresh imag
 unfolding restore_of
 stays image e = rw (ok, e)
 
-module _ (image : List ℕ) (c : Collector) (new : view_of c ≡ fresh) (r : Restored) (done : Restores c image r) where
-  result : restore_result r ≡ restore_of fresh image
+module _ (image : List ℕ) (c : Collector) (new : view_of c ≡ fresh) (r : Result Collector Refusal)
+    (done : Restores c image r) where
+  result : restore_result c r ≡ restore_of fresh image
   result = done.result ∙ ap (λ (v : View). restore_of v image) new
 
-  pub counts-refused : (why : Refusal) → r.answer ≡ Refused why → false ≡ accepts image
+  pub counts-refused : (why : Refusal) → r ≡ Err why → None ≡ counted_by image
   counts-refused why e =
-      by_test {X = false ≡ accepts image} (accepts image)
-      (λ t. absurd (refused-number why (ap outcome_number (sym e) ∙ ap (λ (x : RestoreResult). x.number) (result
+      by_test {X = None ≡ counted_by image} (accepts image)
+      (λ t. absurd (refused-number why (ap next_number (sym e) ∙ ap (λ (x : RestoreResult). x.number) (result
       ∙ held image t))))
-      (λ f. sym f)
+      (λ f. rw f)
 
-  module _ (e : r.answer ≡ Done) where
-    pub counts-restored : accepts image ≡ true
-    counts-restored =
+  module _ (d : Collector) (e : r ≡ Ok d) where
+    restored-image : accepts image ≡ true
+    restored-image =
         by_test {X = accepts image ≡ true} (accepts image) (λ t. t)
-        (λ f. absurd (refused-number NotAccepted (sym (sym (ap outcome_number e) ∙ ap (λ
+        (λ f. absurd (refused-number NotAccepted (sym (sym (ap next_number e) ∙ ap (λ
         (x : RestoreResult). x.number) (result ∙ stays image f)))))
 
-    totals_are : r.next.summary.totals ≡ totals_in image
+    totals_are : d.summary.totals ≡ totals_in image
     unfolding parse view_of
-    totals_are = ap (λ (x : RestoreResult). x.next.totals) (result ∙ held image counts-restored)
+    totals_are =
+        sym (ap (λ (x : Result Collector Refusal). (next_in c x).summary.totals) e)
+        ∙ ap (λ (x : RestoreResult). x.next.totals) (result ∙ held image restored-image)
 
-    pub rows-counted : r.next.summary.totals.kept + r.next.summary.totals.loose ≡ image_rows image
+    pub counts-restored : Some (d.summary.totals.kept + d.summary.totals.loose) ≡ counted_by image
     unfolding image_rows
-    rows-counted = ap (λ (n : Totals). n.kept + n.loose) totals_are
+    counts-restored = ap (λ (n : Totals). Some (n.kept + n.loose)) totals_are ∙ rw restored-image refl
 
-    pub rows_fit : r.next.summary.totals.received
-        ≡ r.next.summary.totals.kept + r.next.summary.totals.copies + r.next.summary.totals.loose
-        + r.next.summary.totals.damaged
-        + r.next.summary.totals.late
+    pub rows_fit : d.summary.totals.received
+        ≡ d.summary.totals.kept + d.summary.totals.copies + d.summary.totals.loose + d.summary.totals.damaged
+        + d.summary.totals.late
     unfolding parse
     rows_fit =
         rw totals_are (eqb-true (totals_in image).received _ (summed (parse image)
-        (accepted-image image counts-restored)))
+        (accepted-image image restored-image)))
+
+pub counted-some : (image : List ℕ) (n : ℕ) → counted_by image ≡ Some n
+    → (accepts image ≡ true) × (n ≡ image_rows image)
+counted-some image n =
+    by_test {X = counted_by image ≡ Some n → (accepts image ≡ true) × (n ≡ image_rows image)} (accepts image)
+    (λ t. rw t (λ e. (refl, cc)))
+    (λ f. rw f (λ e. absurd (let z : ◌≡◌ {A = Option ℕ} None (Some n) = e in cc)))
+
+pub counted-none : (image : List ℕ) → counted_by image ≡ None → accepts image ≡ false
+counted-none image =
+    by_test {X = counted_by image ≡ None → accepts image ≡ false} (accepts image)
+    (λ t. rw t (λ e. absurd (let z : ◌≡◌ {A = Option ℕ} (Some (image_rows image)) None = e in cc)))
+    (λ f. rw f (λ e. refl))

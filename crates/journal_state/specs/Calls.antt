@@ -1,9 +1,8 @@
 -- What the calls answer, with every number and byte that is lent.
-use Rattle.std.specs.Prelude.{ℕ, ◌≡◌, true, false, cond, not, ◌||◌, List, eqb, length}
+use Rattle.std.specs.Prelude.{ℕ, cond, not, ◌||◌, List, eqb, length, Option, Some, None}
 use Rattle.base_refusal.specs.Number.{number_of}
 use Rattle.base_refusal.specs.declared.Refusal.TheVariants.{NotAccepted, Size}
 use Rattle.collector_model.specs.Image.{accepts}
-use Rattle.journal_state.specs.declared.Counted.{Counted}
 use Rattle.journal_state.specs.State.{Kept, old_length, state_length, state_bytes, read_state}
 use Rattle.journal_state.specs.Lawful.{image_rows, is_lawful_state, accepts_state}
 
@@ -34,8 +33,6 @@ accept_of k bytes =
     (cond (accepts_state bytes) (record { number = 0; next = read_state bytes })
     (record { number = number_of NotAccepted; next = k }))
 
--- whether an image is accepted, and then how many rows it counts; 0 if it is not accepted
-pub record ImageCounts (image : List ℕ) (c : Counted) : Type 0 where
-  pub accepted : c.accepted ≡ accepts image
-  pub rows : c.accepted ≡ true → c.rows ≡ image_rows image
-  pub none : c.accepted ≡ false → c.rows ≡ 0
+-- how many rows an image counts; none if it is not accepted
+abbrev pub counted_by : List ℕ → Option ℕ
+counted_by image = cond (accepts image) (Some (image_rows image)) None

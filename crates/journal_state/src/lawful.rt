@@ -1,13 +1,12 @@
 // Whether a state is lawful: only a lawful state is written or accepted.
-ghost use Rattle.std.specs.Prelude.{◌≡◌, [], ◌∷◌, min, length};
+ghost use Rattle.std.specs.Prelude.{◌≡◌, [], ◌∷◌, length};
 ghost use Rattle.journal_state.specs.State.{kept, max_name, max_tail};
 ghost use Rattle.journal_state.specs.Lawful.{is_last_of, is_file, is_attached, is_placed, is_printed, is_lawful_state};
-ghost use Rattle.journal_state.specs.Calls.{ImageCounts};
+ghost use Rattle.journal_state.specs.Calls.{counted_by};
 ghost use Rattle.journal_state.specs.Private.{Sized};
 
-use crate::{Counted, NAME_LENGTH, NUMBERS, TAIL_LENGTH};
+use crate::{NAME_LENGTH, NUMBERS, TAIL_LENGTH};
 use archive_file::MAX_ROWS;
-use base_refusal::Outcome;
 use block_layout::CELLS_PER_BLOCK;
 use collector_state::Collector;
 use journal_calls::block;
@@ -25,11 +24,10 @@ pub(crate) fn is_lawful(
     ensures { result ≡ is_lawful_state (kept numbers.now name.now last.now
         image.now tail.now) }
 {
-    let counted = rows_of(image);
-    if !counted.accepted {
+    let Some(counted) = rows_of(image) else {
         return false;
-    }
-    if !is_attached(numbers, name, last, counted.rows) {
+    };
+    if !is_attached(numbers, name, last, counted) {
         return false;
     }
     if !is_placed(numbers, tail) {
@@ -38,24 +36,16 @@ pub(crate) fn is_lawful(
     is_printed(numbers)
 }
 
-// Whether an image is accepted, and how many rows it counts.
-pub fn rows_of(image: &[u8]) -> Counted
-    ensures { ImageCounts image.now result }
+// How many rows an image counts, if it is accepted.
+pub fn rows_of(image: &[u8]) -> Option<u64>
+    ensures { result ≡ counted_by image.now }
 {
-    let restored = collector_checkpoint::restore(Collector::fresh(), image);
-    let answer = restored.answer;
-    if let Outcome::Refused(_) = answer {
-        return Counted {
-            accepted: false,
-            rows: 0,
-        };
-    }
-    let next = restored.next;
-    let summary = next.summary;
-    let totals = summary.totals;
-    Counted {
-        accepted: true,
-        rows: totals.kept + totals.loose,
+    match collector_checkpoint::restore(Collector::fresh(), image) {
+        Ok(next) => {
+            let totals = next.summary.totals;
+            Some(totals.kept + totals.loose)
+        }
+        Err(_) => None,
     }
 }
 
@@ -129,7 +119,7 @@ fn is_placed(numbers: &[u64; NUMBERS], tail: &[u8]) -> bool
     if numbers[5] == 0 {
         return (numbers[6] == 0) & (numbers[7] == 0) & (numbers[8] == 0) & (numbers[9] == 0);
     }
-    (numbers[5] == 1) & (numbers[9] == least(numbers[6], TAIL_LENGTH as u64))
+    (numbers[5] == 1) & (numbers[9] == numbers[6].min(TAIL_LENGTH as u64))
 }
 
 // Whether the file for rows is right.
@@ -140,14 +130,4 @@ fn is_printed(numbers: &[u64; NUMBERS]) -> bool
         return (numbers[11] == 0) & (numbers[12] == 0) & (numbers[13] == 0);
     }
     numbers[10] == 1
-}
-
-// The smaller of two.
-fn least(a: u64, b: u64) -> u64
-    ensures { result ≡ min a b }
-{
-    if a < b {
-        return a;
-    }
-    b
 }

@@ -5,6 +5,7 @@ pub mod lawful;
 pub mod writing;
 
 ghost use Rattle.std.specs.Prelude.{◌≡◌, true, cond, ◌||◌, [], ◌+◌, ◌≤◌, eqb, length, take, drop};
+ghost use Rattle.base_refusal.specs.Number.{outcome_number};
 ghost use Rattle.base_lists.specs.Lists.{equal};
 ghost use Rattle.base_buffers.specs.Buffer.{part, resized};
 ghost use Rattle.block_layout.specs.BigEndian.{unbe};
@@ -29,13 +30,6 @@ pub const LENGTH: usize = 4096;
 // A file of version 1 ends with the image.
 const OLD_LENGTH: usize = 3584;
 
-// How many rows an image counts, if it is accepted.
-#[derive(Clone, Copy)]
-pub struct Counted {
-    pub accepted: bool,
-    pub rows: u64,
-}
-
 // Writes a state. Refused: 11 if it is not lawful; then the output is unchanged.
 pub fn write(
     numbers: &[u64; NUMBERS],
@@ -44,16 +38,16 @@ pub fn write(
     image: &[u8; IMAGE_LENGTH],
     tail: &[u8; TAIL_LENGTH],
     out: &mut [u8; LENGTH],
-) -> u8
-    ensures { record { number = result; output = out.new }
+) -> Result<(), Refusal>
+    ensures { record { number = outcome_number result; output = out.new }
         ≡ write_of (kept numbers.now name.now last.now image.now
         tail.now) out.old }
 {
     if !lawful::is_lawful(numbers, name, last, image, tail) {
-        return base_refusal::number(Refusal::NotAccepted);
+        return Err(Refusal::NotAccepted);
     }
     writing::put_state(out, 2, numbers, name, last, image, tail);
-    0
+    Ok(())
 }
 
 // Reads the state of a file. Refused: 16 for a length other than 4,096 or, for version 1, 3,584; 11 for a file that is not byte for byte what is
@@ -65,9 +59,9 @@ pub fn accept(
     last: &mut [u8; BLOCK_LENGTH],
     image: &mut [u8; IMAGE_LENGTH],
     tail: &mut [u8; TAIL_LENGTH],
-) -> u8
+) -> Result<(), Refusal>
     ensures { record {
-      number = result;
+      number = outcome_number result;
       next = kept numbers.new name.new last.new image.new tail.new;
     }
         ≡ accept_of (kept numbers.old name.old last.old image.old
@@ -75,20 +69,20 @@ pub fn accept(
 {
     let len = bytes.len();
     if (len != LENGTH) & (len != OLD_LENGTH) {
-        return base_refusal::number(Refusal::Size);
+        return Err(Refusal::Size);
     }
     let read = numbers_in(bytes);
     let mut rest = [0u8; TAIL_LENGTH];
     block_layout::put_bytes(&mut rest, &bytes[OLD_LENGTH..len]);
     if !is_state(bytes, &read, &rest) {
-        return base_refusal::number(Refusal::NotAccepted);
+        return Err(Refusal::NotAccepted);
     }
     *numbers = read;
-    block_layout::put_bytes(name, &bytes[41..296]);
-    block_layout::put_bytes(last, &bytes[BLOCK_LENGTH..1024]);
-    block_layout::put_bytes(image, &bytes[1024..OLD_LENGTH]);
-    block_layout::put_bytes(tail, &rest);
-    0
+    name.copy_from_slice(&bytes[41..296]);
+    last.copy_from_slice(&bytes[BLOCK_LENGTH..1024]);
+    image.copy_from_slice(&bytes[1024..OLD_LENGTH]);
+    *tail = rest;
+    Ok(())
 }
 
 // The numbers of a file.
@@ -148,10 +142,7 @@ fn is_state(bytes: &[u8], read: &[u64; NUMBERS], rest: &[u8; TAIL_LENGTH]) -> bo
 fn is_said(len: usize, read: &[u64; NUMBERS]) -> bool
     ensures { result ≡ cond (eqb len old_length) (is_plain (kept read.now [] [] [] [])) true }
 {
-    if len == OLD_LENGTH {
-        return is_plain(read);
-    }
-    true
+    len != OLD_LENGTH || is_plain(read)
 }
 
 // Whether they have no position in the log and no file for rows.
@@ -194,8 +185,5 @@ fn is_written(bytes: &[u8], read: &[u64; NUMBERS], rest: &[u8; TAIL_LENGTH]) -> 
 fn version_of(len: usize) -> u8
     ensures { result ≡ version_of len }
 {
-    if len == OLD_LENGTH {
-        return 1;
-    }
-    2
+    if len == OLD_LENGTH { 1 } else { 2 }
 }

@@ -1,4 +1,5 @@
 // The collector, in five lent arrays that are changed in place: the times, lengths, bytes and numbers of copies of the entries, and eight numbers.
+// Kept (group): the C interface lends the arrays one by one.
 ghost use Rattle.std.specs.Prelude.{◌≡◌, [], ◌∷◌};
 ghost use Rattle.collector_model.specs.Image.{checkpoint_of};
 ghost use Rattle.c_collector.specs.State.{arrays, state_at};
@@ -6,7 +7,7 @@ ghost use Rattle.c_collector.specs.Calls.{Fresh, totals_call, copies_call};
 ghost use Rattle.c_checkpoint.specs.Calls.{Restores};
 ghost use Rattle.c_lines.specs.Calls.{first_number, first_used, ReadLine, Skipped};
 
-use c_collector::{BYTES, CAPACITY, NUMBERS, TOTALS};
+use c_collector::{BYTES, CAPACITY, Held, Lent, NUMBERS, TOTALS};
 use c_lines::{FIRST, MAX_BYTES, READ, SKIPPED};
 
 // A collector with no telegram open and nothing counted.
@@ -21,7 +22,14 @@ pub extern "C" fn mooringeye_collector_fresh(
     ensures { Fresh (arrays times.new lengths.new bytes.new copies.new
         numbers.new) }
 {
-    c_collector::fresh(times, lengths, bytes, copies, numbers);
+    let mut state = Lent {
+        times,
+        lengths,
+        bytes,
+        copies,
+        numbers,
+    };
+    state.clear();
 }
 
 // The six totals.
@@ -39,7 +47,14 @@ pub extern "C" fn mooringeye_collector_totals<'a>(
         copies.now numbers.now))
         totals.old }
 {
-    c_collector::totals(times, lengths, bytes, copies, numbers, totals)
+    let state = Held {
+        times,
+        lengths,
+        bytes,
+        copies,
+        numbers,
+    };
+    state.totals(totals)
 }
 
 // How often the telegram of an entry was received again.
@@ -57,7 +72,14 @@ pub extern "C" fn mooringeye_collector_copies<'a>(
         ≡ copies_call (state_at (arrays times.now lengths.now bytes.now
         copies.now numbers.now)) entry heard.old }
 {
-    c_collector::copies_of(times, lengths, bytes, copies, numbers, entry, heard)
+    let state = Held {
+        times,
+        lengths,
+        bytes,
+        copies,
+        numbers,
+    };
+    state.copies_of(entry, heard)
 }
 
 // Writes the image of the state into the first 2,560 bytes.
@@ -75,7 +97,14 @@ pub extern "C" fn mooringeye_collector_checkpoint<'a>(
         (arrays times.now lengths.now bytes.now copies.now
         numbers.now)) out.old }
 {
-    c_checkpoint::checkpoint(times, lengths, bytes, copies, numbers, out)
+    let state = Held {
+        times,
+        lengths,
+        bytes,
+        copies,
+        numbers,
+    };
+    c_checkpoint::checkpoint(state, out)
 }
 
 // Restores the state of an image.
@@ -93,7 +122,14 @@ pub extern "C" fn mooringeye_collector_restore(
         (arrays times.new lengths.new bytes.new copies.new
         numbers.new) }
 {
-    c_checkpoint::restore(times, lengths, bytes, copies, numbers, image)
+    let mut state = Lent {
+        times,
+        lengths,
+        bytes,
+        copies,
+        numbers,
+    };
+    c_checkpoint::restore(&mut state, image)
 }
 
 // The level in the first line of a text, and the number of characters of that line.

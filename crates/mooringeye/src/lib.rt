@@ -1,5 +1,6 @@
 // The interface for other languages, on plain numbers and bytes; `bin/library` builds what is linked. Each call here is a call of a crate below,
 // where the code and its proof are.
+// Kept (code): the C interface: the calls answer by numbers.
 #![tactic(auto)]
 
 pub mod archive;
@@ -10,16 +11,17 @@ pub mod plans;
 pub mod plant;
 pub mod report;
 
-ghost use Rattle.std.specs.Prelude.{◌≡◌};
+ghost use Rattle.std.specs.Prelude.{◌≡◌, ◌≤◌, Err};
 ghost use Rattle.base_crc8.specs.Crc8.{crc_of};
 ghost use Rattle.plan_slots.specs.Plan.{answer_of, plan_of};
 ghost use Rattle.plan_rules.specs.Rules.{plan_by};
+ghost use Rattle.plan_site.specs.Site.{verdict_answer};
 ghost use Rattle.plan_site.specs.Bytes.{site_in};
 ghost use Rattle.mooringeye.specs.Packed.{plan_answer, packed, packed_site, interface_version};
 
 use base_refusal::Refusal;
-use plan_site::Verdict;
-use plan_slots::{Planned, SlotPlan};
+use plan_site::Rejection;
+use plan_slots::SlotPlan;
 
 // The version of the library, which is also that of the header: major x 65,536 + minor x 256 + patch.
 #[unsafe(no_mangle)]
@@ -65,23 +67,33 @@ pub extern "C" fn mooringeye_site(repeaters: &[u8]) -> u32
     ensures { result ≡ packed_site (site_in repeaters.now) }
 {
     match plan_site::check_bytes(repeaters) {
-        Verdict::Accepted => 0,
-        Verdict::OutOfRange => base_refusal::number(Refusal::Argument) as u32 * 65_536,
-        Verdict::Unlawful(i) => {
+        Ok(()) => 0,
+        Err(why) => pack_rejection(why),
+    }
+}
+
+// Why a site is rejected, in the same form.
+fn pack_rejection(why: Rejection) -> u32
+    requires { ((verdict_answer (Err why)).repeater ≤ 32) × ((verdict_answer (Err why)).other ≤ 32) }
+    ensures { result ≡ packed_site (verdict_answer (Err why)) }
+{
+    match why {
+        Rejection::OutOfRange => base_refusal::number(Refusal::Argument) as u32 * 65_536,
+        Rejection::Unlawful(i) => {
             base_refusal::number(Refusal::Unlawful) as u32 * 65_536 + i as u32 * 256
         }
-        Verdict::Overlap(i, j) => {
+        Rejection::Overlap(i, j) => {
             base_refusal::number(Refusal::Overlap) as u32 * 65_536 + i as u32 * 256 + j as u32
         }
     }
 }
 
-fn pack_planned(planned: Planned) -> u32
+fn pack_planned(planned: Result<SlotPlan, Refusal>) -> u32
     ensures { result ≡ packed (answer_of planned) }
 {
     match planned {
-        Planned::Slots(p) => pack(0, p),
-        Planned::Refused(e) => {
+        Ok(p) => pack(0, p),
+        Err(e) => {
             let none = SlotPlan {
                 first: 0,
                 second: 0,

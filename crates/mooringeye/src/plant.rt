@@ -23,7 +23,7 @@ pub extern "C" fn mooringeye_state_write(
         ≡ write_of (kept numbers.now name.now last.now image.now
         tail.now) out.old }
 {
-    journal_state::write(numbers, name, last, image, tail, out)
+    base_refusal::outcome_number(journal_state::write(numbers, name, last, image, tail, out))
 }
 
 // Reads the state of a file.
@@ -43,7 +43,7 @@ pub extern "C" fn mooringeye_state_accept(
         ≡ accept_of (kept numbers.old name.old last.old image.old
         tail.old) bytes.now }
 {
-    journal_state::accept(bytes, numbers, name, last, image, tail)
+    base_refusal::outcome_number(journal_state::accept(bytes, numbers, name, last, image, tail))
 }
 
 // Judges the block with the last row that a state counts.
@@ -51,7 +51,7 @@ pub extern "C" fn mooringeye_state_accept(
 pub extern "C" fn mooringeye_journal_judge(last: &[u8], rows: usize, block: &[u8]) -> u8
     ensures { result ≡ judgement_number (judgement_of last.now rows block.now) }
 {
-    journal_calls::block::number(journal_calls::block::judge(last, rows, block))
+    journal_calls::block::judge(last, rows, block).into()
 }
 
 // How many rows agree with leftovers, and how many of those must be put aside.
@@ -68,7 +68,14 @@ pub extern "C" fn mooringeye_journal_compare(
         ≡ compare_call times.now rows.now moments.now left.now
         agreed.old going.old }
 {
-    journal_calls::rows::compare(times, rows, moments, left, agreed, going)
+    match journal_calls::rows::compare(times, rows, moments, left) {
+        Ok(c) => {
+            *agreed = c.agreed;
+            *going = c.going;
+            0
+        }
+        Err(why) => base_refusal::number(why),
+    }
 }
 
 // How many blocks of a piece read as an archive.
@@ -80,5 +87,5 @@ pub extern "C" fn mooringeye_journal_scan(
     ensures { record { number = result; numbers = numbers.new }
         ≡ run_call numbers.old piece.now }
 {
-    journal_calls::scan::feed(numbers, piece)
+    base_refusal::outcome_number(journal_calls::scan::feed(numbers, piece))
 }

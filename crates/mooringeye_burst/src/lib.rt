@@ -1,10 +1,11 @@
 // The call that takes a burst, for C, Rust and Python, in a crate of its own: compiled by itself, what it calls is inlined.
+// Kept (group): the C interface lends the arrays one by one.
 #![tactic(auto)]
 
 ghost use Rattle.c_collector.specs.State.{arrays};
 ghost use Rattle.c_burst.specs.Calls.{Bursts};
 
-use c_collector::{BYTES, CAPACITY, NUMBERS};
+use c_collector::{BYTES, CAPACITY, Lent, NUMBERS};
 
 // Takes receptions that are handed over in one list, and writes the replies into a second list.
 #[unsafe(no_mangle)]
@@ -25,7 +26,12 @@ pub extern "C" fn mooringeye_collector_burst(
         (arrays times.new lengths.new bytes.new copies.new
         numbers.new) replies.new }
 {
-    c_burst::burst(
-        times, lengths, bytes, copies, numbers, setting, moments, records, replies,
-    )
+    let mut state = Lent {
+        times,
+        lengths,
+        bytes,
+        copies,
+        numbers,
+    };
+    c_burst::burst(&mut state, setting, moments, records, replies)
 }

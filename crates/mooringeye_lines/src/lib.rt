@@ -1,10 +1,11 @@
 // The call that takes lines, for C, Rust and Python, in a crate of its own: compiled by itself, what it calls is inlined.
+// Kept (group): the C interface lends the arrays one by one.
 #![tactic(auto)]
 
 ghost use Rattle.c_collector.specs.State.{arrays};
 ghost use Rattle.c_lines.specs.Calls.{Lines};
 
-use c_collector::{BYTES, CAPACITY, NUMBERS};
+use c_collector::{BYTES, CAPACITY, Lent, NUMBERS};
 use c_lines::DONE;
 
 // Takes whole lines of text from the start of the input, with the text of their rows and the rows that an archive keeps.
@@ -31,7 +32,12 @@ pub extern "C" fn mooringeye_collector_lines(
         numbers.new)
         out.new moments.new rows.new done.new }
 {
-    c_lines::lines(
-        times, lengths, bytes, copies, numbers, setting, input, most, out, moments, rows, done,
-    )
+    let mut state = Lent {
+        times,
+        lengths,
+        bytes,
+        copies,
+        numbers,
+    };
+    c_lines::lines(&mut state, setting, input, most, out, moments, rows, done)
 }

@@ -1,11 +1,12 @@
 // The call that takes lines and writes their rows in a format, for C, Rust and Python, in a crate of its own: compiled by itself, what it calls is
 // inlined.
+// Kept (group): the C interface lends the arrays one by one.
 #![tactic(auto)]
 
 ghost use Rattle.c_collector.specs.State.{arrays};
 ghost use Rattle.c_lines.specs.Formats.{LinesAs};
 
-use c_collector::{BYTES, CAPACITY, NUMBERS};
+use c_collector::{BYTES, CAPACITY, Lent, NUMBERS};
 use c_lines::formats;
 
 // Takes whole lines as `mooringeye_collector_lines` does, with their rows in a format, and with what they close.
@@ -34,8 +35,14 @@ pub extern "C" fn mooringeye_collector_lines_as(
         numbers.new)
         out.new moments.new rows.new closed.new done.new }
 {
+    let mut state = Lent {
+        times,
+        lengths,
+        bytes,
+        copies,
+        numbers,
+    };
     formats::lines_as(
-        times, lengths, bytes, copies, numbers, setting, format, input, most, out, moments, rows,
-        closed, done,
+        &mut state, setting, format, input, most, out, moments, rows, closed, done,
     )
 }

@@ -1,11 +1,12 @@
 // The calls that take one reception, for C, Rust and Python, in a crate of their own: compiled by itself, what they call is inlined.
+// Kept (group): the C interface lends the arrays one by one.
 #![tactic(auto)]
 
 ghost use Rattle.std.specs.Prelude.{true};
 ghost use Rattle.c_collector.specs.State.{arrays};
 ghost use Rattle.c_collector.specs.Calls.{Takes, TakesTold};
 
-use c_collector::{BYTES, CAPACITY, NUMBERS};
+use c_collector::{BYTES, CAPACITY, Lent, NUMBERS};
 
 // Takes one reception.
 #[unsafe(no_mangle)]
@@ -24,7 +25,14 @@ pub extern "C" fn mooringeye_collector_take<'a>(
         (arrays times.new lengths.new bytes.exit.now copies.new
         numbers.new) }
 {
-    c_collector::take(times, lengths, bytes, copies, numbers, received, time)
+    let mut state = Lent {
+        times,
+        lengths,
+        bytes,
+        copies,
+        numbers,
+    };
+    state.take(received, time)
 }
 
 // Takes one reception, with a state that was tested: the caller says that the state is acceptable.
@@ -44,5 +52,12 @@ pub extern "C" fn mooringeye_collector_take_tested<'a>(
         (arrays times.new lengths.new bytes.exit.now copies.new
         numbers.new) }
 {
-    c_collector::take_told(true, times, lengths, bytes, copies, numbers, received, time)
+    let mut state = Lent {
+        times,
+        lengths,
+        bytes,
+        copies,
+        numbers,
+    };
+    state.take_told(true, received, time)
 }

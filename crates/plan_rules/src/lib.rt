@@ -7,9 +7,10 @@ ghost use Rattle.plan_slots.specs.Plan.{answer_of};
 ghost use Rattle.plan_rules.specs.Rules.{IsRuleAndLevel, is_rule_and_level, is_offered, rule_of, plan_by, is_lawful_of, is_lawful_by};
 
 use base_refusal::Refusal;
-use plan_slots::{Planned, Rule, SlotPlan, SlotRange};
+use plan_slots::{Rule, SlotPlan, SlotRange};
 
 // The rules, by number; PAUSED is the last.
+// Kept (code): C hands over the number, `plan_by` and its theorems answer 10 for one that is no rule, and the tables below are indexed by it.
 pub const STANDARD: u8 = 0;
 
 pub const COMPRESSED: u8 = 1;
@@ -99,7 +100,7 @@ const PAUSED_OF_THREE: Rule = Rule {
 };
 
 // How many transmissions may be requested.
-#[derive(Clone, Copy)]
+#[derive(Clone, Copy, Debug, PartialEq, Eq)]
 pub struct Offer {
     pub fewest: u8,
     pub most: u8,
@@ -119,18 +120,23 @@ const OFFERS: [[Offer; 3]; 3] = [
 ];
 
 // The plan that a draw picks among the lawful ones under a rule, for a number of transmissions. Refused: 10, then 9.
-pub fn plan_by(rule: u8, level: u8, transmissions: u8, duration: u32, draw: u64) -> Planned
+pub fn plan_by(
+    rule: u8,
+    level: u8,
+    transmissions: u8,
+    duration: u32,
+    draw: u64,
+) -> Result<SlotPlan, Refusal>
     ensures { answer_of result ≡ plan_by rule level transmissions duration draw }
 {
-    let in_range = (1 <= duration) & (duration <= plan_slots::MAX_DURATION);
-    if !in_range {
-        return Planned::Refused(Refusal::Argument);
+    if !plan_slots::is_duration(duration) {
+        return Err(Refusal::Argument);
     }
     if !is_known(rule, level) {
-        return Planned::Refused(Refusal::Argument);
+        return Err(Refusal::Argument);
     }
     if !offers(rule, level, transmissions) {
-        return Planned::Refused(Refusal::Argument);
+        return Err(Refusal::Argument);
     }
     plan_slots::choose(rule_of(rule, level, transmissions), duration, draw)
 }
@@ -140,7 +146,7 @@ pub fn plan_by(rule: u8, level: u8, transmissions: u8, duration: u32, draw: u64)
 pub fn is_lawful_by(rule: u8, level: u8, duration: u32, plan: SlotPlan) -> bool
     ensures { result ≡ is_lawful_by rule level duration plan }
 {
-    let timed = (1 <= duration) & (duration <= plan_slots::MAX_DURATION);
+    let timed = plan_slots::is_duration(duration);
     if !timed {
         return false;
     }
@@ -206,7 +212,7 @@ fn offers(rule: u8, level: u8, transmissions: u8) -> bool
     ensures { result ≡ is_offered rule level transmissions }
 {
     let offer = OFFERS[rule as usize][level as usize];
-    (offer.fewest <= transmissions) & (transmissions <= offer.most)
+    (offer.fewest..=offer.most).contains(&transmissions)
 }
 
 // The rule for a number of transmissions: with two, there is no third.

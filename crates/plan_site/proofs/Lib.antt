@@ -1,5 +1,6 @@
 pub mod Accepts
 pub mod Named
-mod Loops
+mod Pairs
+mod Found
 mod Answers
 mod Read

@@ -1,34 +1,28 @@
--- Repeaters read from bytes, one at a time.
-use mathlib.Core.Path.{◌≡◌, sym, ap, ◌∙◌}
-use mathlib.Core.Bool.{Bool}
-use mathlib.Core.List.{List}
-use Prim.Native.Nat.{ℕ, ◌+◌, ◌-◌, ◌*◌, ◌≤◌, ◌<◌}
-use native.Mathlib.Nat.{zero-add}
+-- Repeaters read from bytes: those that are cut out of them are those of the list.
+use mathlib.Core.Path.{◌≡◌, refl, sym, ap, ◌∙◌}
+use mathlib.Core.List.{List, ◌∷◌, map}
+use Prim.Native.Nat.{ℕ, zero, suc, ◌+◌, ◌*◌, ◌/◌, ◌≤◌}
 use native.Mathlib.Omega.{arith}
-use lib.ListN.{length, get_or, take, drop, length-map}
+use lib.ListN.{length, drop}
+use Rattle.std.specs.Simd.{first_chunks}
+use Rattle.std.proofs.lemmas.List.{drop-drop}
 use Rattle.base_lists.specs.Lists.{up_from}
-use Rattle.base_lists.proofs.UpFrom.{get_d_up_from, length-up_from}
 use Rattle.plan_site.specs.declared.Assignment.{Assignment}
-use Rattle.plan_site.specs.Site.{no_assignment}
-use Rattle.plan_site.specs.Bytes.{HoldsRepeaters, assignment_of, assignment_at, repeater_count, assignments_in}
+use Rattle.plan_site.specs.Bytes.{assignment_of, assignment_at, repeater_count, assignments_in}
 
-module _ (count : ℕ) (s : List ℕ) (h : HoldsRepeaters count s) where
-  pub enough : count ≤ length (assignments_in s)
-  enough =
-      let long : length (assignments_in s) ≡ repeater_count s
-      = length-map (up_from 0 (repeater_count s)) (assignment_at s) ∙ length-up_from 0 (repeater_count s) in
-      omega (arith, long, h.few, h.whole)
+-- n repeaters from repeater a on
+chunks_from : (s : List ℕ) (a n : ℕ)
+    → map assignment_of (first_chunks 9 n (drop (9 * a) s)) ≡ map (assignment_at s) (up_from a n)
+unfolding up_from
+chunks_from s a zero = refl
+chunks_from s a (suc n) =
+    let next : 9 * a + 9 ≡ 9 * suc a = omega arith in
+    ap (λ (l : List Assignment). assignment_at s a ∷ l)
+    (ap (λ (l : List ℕ). map assignment_of (first_chunks 9 n l)) (drop-drop 9 (9 * a) s ∙ ap (λ (k : ℕ). drop k s) next)
+    ∙ chunks_from s (suc a) n)
 
-  module _ (i : ℕ) (inside : i < count) (x : Assignment)
-      (e : x ≡ assignment_of (take (9 * i + 9 - 9 * i) (drop (9 * i) s))) where
-    read : x ≡ get_or (assignments_in s) i no_assignment
-    read =
-        let nine : 9 * i + 9 - 9 * i ≡ 9 = omega arith in
-        let below : i < repeater_count s = omega (arith, h.few, h.whole) in
-        e ∙ ap (λ (n : ℕ). assignment_of (take n (drop (9 * i) s))) nine
-        ∙ sym (get_d_up_from (assignment_at s) 0 (repeater_count s) i no_assignment below
-        ∙ ap (assignment_at s) (zero-add i))
-
-    -- what is tested of the repeater that was read
-    pub as_read : (p : Assignment → Bool) (v : Bool) → p x ≡ v → p (get_or (assignments_in s) i no_assignment) ≡ v
-    as_read p v q = ap p (sym read) ∙ q
+pub read_all : (s : List ℕ) → length s / 9 ≤ 32
+    → map assignment_of (first_chunks 9 (length s / 9) s) ≡ assignments_in s
+read_all s few =
+    let size : repeater_count s ≡ length s / 9 = omega arith in
+    chunks_from s 0 (length s / 9) ∙ ap (λ (n : ℕ). map (assignment_at s) (up_from 0 n)) (sym size)

@@ -1,6 +1,6 @@
 -- The repeaters of a site as bytes, for callers in C. Each has nine bytes: rule, level, duration in four bytes from the
 -- highest on, first, second and third slot. The papers do not define this layout.
-use Rattle.std.specs.Prelude.{cond, List, map, ℕ, ◌+◌, ◌*◌, ◌/◌, ◌%◌, ◌≤◌, min, eqb, length, get_or, take, drop}
+use Rattle.std.specs.Prelude.{cond, List, map, ℕ, ◌+◌, ◌*◌, ◌/◌, ◌%◌, min, eqb, length, get_or, take, drop}
 use Rattle.base_lists.specs.Lists.{up_from}
 use Rattle.base_refusal.specs.Number.{number_of}
 use Rattle.base_refusal.specs.declared.Refusal.TheVariants.{Argument}
@@ -32,11 +32,6 @@ repeater_count s = min (length s / size) max_repeaters
 -- the repeaters in these bytes
 abbrev pub assignments_in : List ℕ → List Assignment
 assignments_in s = map (assignment_at s) (up_from 0 (repeater_count s))
-
--- these bytes have at least `count` repeaters, and count is at most 32
-pub record HoldsRepeaters (count : ℕ) (s : List ℕ) : Type 0 where
-  pub few : count ≤ max_repeaters
-  pub whole : size * count ≤ length s
 
 -- also 10 if the bytes are not whole repeaters
 abbrev pub site_in : List ℕ → SiteAnswer

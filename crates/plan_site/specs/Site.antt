@@ -1,6 +1,6 @@
 -- The slot plans of a whole site (document 02, A14): what each repeater sends, when two of them overlap, and the answer
 -- of the check.
-use Rattle.std.specs.Prelude.{Bool, cond, not, ◌&&◌, ◌||◌, List, [], ◌∷◌, ℕ, suc, ◌+◌, take, ltb, eqb}
+use Rattle.std.specs.Prelude.{◌≡◌, ◌<◌, Bool, cond, not, ◌&&◌, ◌||◌, List, [], ◌∷◌, ℕ, suc, ◌+◌, take, length, ltb, eqb, Option, unwrap_or, IfSome, Result, Ok, Err, ⊤}
 use Rattle.base_lists.specs.Lists.{any, all, first_of}
 use Rattle.base_refusal.specs.Number.{number_of}
 use Rattle.base_refusal.specs.declared.Refusal.TheVariants as refusal
@@ -8,8 +8,7 @@ use Rattle.plan_slots.specs.declared.SlotPlan.{SlotPlan}
 use Rattle.plan_slots.specs.Plan.{plan, no_slot, start_of, end_of, is_duration}
 use Rattle.plan_rules.specs.Rules.{is_rule_and_level, is_lawful_by}
 use Rattle.plan_site.specs.declared.Assignment.{Assignment}
-use Rattle.plan_site.specs.declared.Verdict.{Verdict}
-use Rattle.plan_site.specs.declared.Verdict.TheVariants.{Accepted, OutOfRange, Unlawful, Overlap}
+use Rattle.plan_site.specs.declared.Rejection.{Rejection}
 
 -- "up to 32 repeaters"
 abbrev pub max_repeaters : ℕ
@@ -60,6 +59,10 @@ clash a b = any (λ t. any (overlap t) (sent_by b)) (sent_by a)
 
 -- ---- the answer
 
+-- the index of the first element that passes a test, if one does
+abbrev pub IsFirst : {A : Type 0} → (A → Bool) → List A → Option ℕ → Type 0
+IsFirst p l found = (first_of p l ≡ unwrap_or found (length l)) × IfSome found (λ i. i < length l)
+
 -- what a caller sees: the number, and the repeaters that it names, counted from 0; 0 if it names none
 pub record SiteAnswer : Type 0 where
   pub number : ℕ
@@ -70,11 +73,11 @@ abbrev pub site_answer : ℕ → ℕ → ℕ → SiteAnswer
 site_answer n i j = record { number = n; repeater = i; other = j }
 
 -- the answer of a verdict of the code
-abbrev pub verdict_answer : Verdict → SiteAnswer
-verdict_answer Accepted = site_answer 0 0 0
-verdict_answer OutOfRange = site_answer (number_of refusal.Argument) 0 0
-verdict_answer (Unlawful i) = site_answer (number_of refusal.Unlawful) i 0
-verdict_answer (Overlap i j) = site_answer (number_of refusal.Overlap) i j
+abbrev pub verdict_answer : Result ⊤ Rejection → SiteAnswer
+verdict_answer (Ok _) = site_answer 0 0 0
+verdict_answer (Err Rejection.OutOfRange) = site_answer (number_of refusal.Argument) 0 0
+verdict_answer (Err (Rejection.Unlawful i)) = site_answer (number_of refusal.Unlawful) i 0
+verdict_answer (Err (Rejection.Overlap i j)) = site_answer (number_of refusal.Overlap) i j
 
 -- "the overlapping pair with the smallest first .., then the smallest second"; i is the index of the first repeater in
 -- the list

@@ -1,10 +1,10 @@
 // The slot plans of a whole site (document 02, A14): whether every repeater's plan is lawful and no two transmissions overlap.
 #![tactic(auto)]
 
-ghost use Rattle.std.specs.Prelude.{◌≡◌, not, ◌<◌, length, take};
-ghost use Rattle.base_lists.specs.Lists.{all, any, first_of};
-ghost use Rattle.plan_site.specs.Bytes.{HoldsRepeaters, assignment_of, assignments_in, site_in};
-ghost use Rattle.plan_site.specs.Site.{is_in_range, has_lawful_plan, transmission, sent_by, overlap, clash, verdict_answer, pair_of};
+ghost use Rattle.std.specs.Prelude.{◌≡◌, not, map};
+ghost use Rattle.base_lists.specs.Lists.{all, any};
+ghost use Rattle.plan_site.specs.Bytes.{assignment_of, site_in};
+ghost use Rattle.plan_site.specs.Site.{IsFirst, is_in_range, has_lawful_plan, transmission, sent_by, overlap, clash, verdict_answer, pair_of};
 
 use plan_slots::SlotPlan;
 
@@ -12,7 +12,7 @@ use plan_slots::SlotPlan;
 pub const MAX_REPEATERS: usize = 32;
 
 // What a repeater sends: its rule, level, duration and slots.
-#[derive(Clone, Copy)]
+#[derive(Clone, Copy, Debug, PartialEq, Eq)]
 pub struct Assignment {
     pub rule: u8,
     pub level: u8,
@@ -20,10 +20,9 @@ pub struct Assignment {
     pub slots: SlotPlan,
 }
 
-// The result of the check, with the repeaters that it names, counted from 0.
-#[derive(Clone, Copy)]
-pub enum Verdict {
-    Accepted,
+// Why a site is refused, with the repeaters that the refusal names, counted from 0.
+#[derive(Clone, Copy, Debug, PartialEq, Eq)]
+pub enum Rejection {
     // 10.
     OutOfRange,
     // 18.
@@ -35,79 +34,90 @@ pub enum Verdict {
 // The number of bytes of one repeater.
 pub const SIZE: usize = 9;
 
+// Rule, level, duration in four bytes from the highest on, first, second and third slot.
+impl From<&[u8; SIZE]> for Assignment {
+    ghost from_gives = { λ b a. a ≡ assignment_of b.now };
+
+    fn from(b: &[u8; SIZE]) -> Assignment {
+        Assignment {
+            rule: b[0],
+            level: b[1],
+            duration: u32::from_be_bytes([b[2], b[3], b[4], b[5]]),
+            slots: SlotPlan {
+                first: b[6],
+                second: b[7],
+                third: b[8],
+            },
+        }
+    }
+}
+
 // Checks a site in bytes. Refused, in this order: bytes that are not whole repeaters, more than 32 repeaters, or a rule, level or duration out of
 // range (10); the first unlawful plan (18); the first pair that overlaps (19).
-pub fn check_bytes(bytes: &[u8]) -> Verdict
+pub fn check_bytes(bytes: &[u8]) -> Result<(), Rejection>
     ensures { verdict_answer result ≡ site_in bytes.now }
 {
-    if bytes.len() % SIZE != 0 {
-        return Verdict::OutOfRange;
+    let (repeaters, rest) = bytes.as_chunks::<SIZE>();
+    if !rest.is_empty() {
+        return Err(Rejection::OutOfRange);
     }
-    let count = bytes.len() / SIZE;
-    if MAX_REPEATERS < count {
-        return Verdict::OutOfRange;
+    if MAX_REPEATERS < repeaters.len() {
+        return Err(Rejection::OutOfRange);
     }
-    if !all_in_range(bytes, count) {
-        return Verdict::OutOfRange;
+    if !all_in_range(repeaters) {
+        return Err(Rejection::OutOfRange);
     }
-    let i = first_unlawful(bytes, count);
-    if i < count {
-        return Verdict::Unlawful(i);
+    if let Some(i) = first_unlawful(repeaters) {
+        return Err(Rejection::Unlawful(i));
     }
-    first_overlap(bytes, count)
+    first_overlap(repeaters)
 }
 
 // Whether rule, level and duration of every repeater are in range.
-fn all_in_range(bytes: &[u8], count: usize) -> bool
-    requires { HoldsRepeaters count bytes.now }
-    ensures { result ≡ all is_in_range (take count (assignments_in bytes.now)) }
+fn all_in_range(repeaters: &[[u8; SIZE]]) -> bool
+    ensures { result ≡ all is_in_range (map assignment_of repeaters.now) }
 {
-    for i in 0..count {
-        let b = read_one(&bytes[SIZE * i..SIZE * i + SIZE]);
-        if !is_in_range(b) {
-            return false;
-        }
-    }
-    true
+    repeaters.iter().all(|b| is_in_range(Assignment::from(b)))
 }
 
 fn is_in_range(b: Assignment) -> bool
     ensures { result ≡ is_in_range b }
 {
-    plan_rules::is_known(b.rule, b.level)
-        & ((1 <= b.duration) & (b.duration <= plan_slots::MAX_DURATION))
+    plan_rules::is_known(b.rule, b.level) & plan_slots::is_duration(b.duration)
 }
 
-// The first repeater whose plan is not lawful; `count` if all are lawful.
-fn first_unlawful(bytes: &[u8], count: usize) -> usize
-    requires { HoldsRepeaters count bytes.now }
-    ensures { result ≡ first_of (λ b. not (has_lawful_plan b)) (take count (assignments_in bytes.now)) }
+// The first repeater whose plan is not lawful.
+fn first_unlawful(repeaters: &[[u8; SIZE]]) -> Option<usize>
+    ensures { IsFirst (λ b. not (has_lawful_plan b)) (map assignment_of repeaters.now) result }
 {
-    for i in 0..count {
-        let b = read_one(&bytes[SIZE * i..SIZE * i + SIZE]);
-        let plan = b.slots;
-        if !plan_rules::is_lawful_by(b.rule, b.level, b.duration, plan) {
-            return i;
-        }
-    }
-    count
+    repeaters
+        .iter()
+        .position(|b| !is_lawful(Assignment::from(b)))
+}
+
+fn is_lawful(b: Assignment) -> bool
+    ensures { result ≡ has_lawful_plan b }
+{
+    plan_rules::is_lawful_by(b.rule, b.level, b.duration, b.slots)
 }
 
 // The first pair that overlaps, if any.
-fn first_overlap(bytes: &[u8], count: usize) -> Verdict
-    requires { HoldsRepeaters count bytes.now }
-    ensures { verdict_answer result ≡ pair_of 0 (take count (assignments_in bytes.now)) }
+fn first_overlap(repeaters: &[[u8; SIZE]]) -> Result<(), Rejection>
+    ensures { verdict_answer result ≡ pair_of 0 (map assignment_of repeaters.now) }
 {
-    for i in 0..count {
-        let b = read_one(&bytes[SIZE * i..SIZE * i + SIZE]);
-        for j in i + 1..count {
-            let c = read_one(&bytes[SIZE * j..SIZE * j + SIZE]);
-            if clashes(b, c) {
-                return Verdict::Overlap(i, j);
-            }
+    for (i, b) in repeaters.iter().enumerate() {
+        if let Some(j) = first_clash(Assignment::from(b), &repeaters[i + 1..]) {
+            return Err(Rejection::Overlap(i, i + 1 + j));
         }
     }
-    Verdict::Accepted
+    Ok(())
+}
+
+// The first of some repeaters that overlaps with this one.
+fn first_clash(b: Assignment, others: &[[u8; SIZE]]) -> Option<usize>
+    ensures { IsFirst (clash b) (map assignment_of others.now) result }
+{
+    others.iter().position(|c| clashes(b, Assignment::from(c)))
 }
 
 // Whether a transmission of one repeater overlaps with one of the other.
@@ -145,23 +155,4 @@ fn overlaps(slot: u8, duration: u32, other: u8, length: u32) -> bool
     let start = plan_slots::SLOT * slot as u64;
     let begin = plan_slots::SLOT * other as u64;
     (start < begin + length as u64) & (begin < start + duration as u64)
-}
-
-// Reads rule, level, duration in four bytes from the highest on, first, second and third slot.
-fn read_one(b: &[u8]) -> Assignment
-    requires { length b.now ≡ 9 }
-    ensures { result ≡ assignment_of b.now }
-{
-    let high = base_numbers::u32_of_byte(b[2]) * 16_777_216
-        + base_numbers::u32_of_byte(b[3]) * 65_536;
-    Assignment {
-        rule: b[0],
-        level: b[1],
-        duration: high + base_numbers::u32_of_byte(b[4]) * 256 + base_numbers::u32_of_byte(b[5]),
-        slots: SlotPlan {
-            first: b[6],
-            second: b[7],
-            third: b[8],
-        },
-    }
 }

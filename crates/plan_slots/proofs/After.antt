@@ -1,3 +1,4 @@
+use Rattle.std.specs.Prelude.{Ok, Err}
 -- The search among plans of which one slot is the next number: those with given first two slots, and, under a rule of two transmissions, those with a
 -- given first slot.
 use mathlib.Core.Path.{◌≡◌, refl, ap, ◌∙◌}
@@ -13,7 +14,6 @@ use Rattle.base_lists.proofs.Tests.{by_test}
 use Rattle.base_lists.proofs.UpFrom.{length-up_from, get_d_up_from}
 use Rattle.plan_slots.specs.declared.Rule.{Rule}
 use Rattle.plan_slots.specs.declared.SlotPlan.{SlotPlan}
-use Rattle.plan_slots.specs.declared.Lookup.TheVariants.{Found, Counted}
 use Rattle.plan_slots.specs.Plan.{plan, no_slot, is_of_two, range_at, end_of}
 use Rattle.plan_slots.specs.Search.{second_follows, third_follows, fits, IsRow, IsThirds, lookup_of, plans_after, plans_from}
 use Rattle.plan_slots.proofs.Lookups.{lookup_found, lookup_counted}
@@ -24,17 +24,17 @@ module _ (f : ℕ → SlotPlan) (c m k : ℕ) {ps : List SlotPlan} (is : ps ≡ 
   size : length (map f (up_from c m)) ≡ m
   size = rw (length-map, length-up_from)
 
-  row-counted : m ≤ k → Counted m ≡ lookup_of ps k
+  row-counted : m ≤ k → Err m ≡ lookup_of ps k
   row-counted h = rw is (rw size at (lookup_counted (map f (up_from c m)) k (omega (arith, size))))
 
-  row-found : k < m → Found (f (c + k)) ≡ lookup_of ps k
+  row-found : k < m → Ok (f (c + k)) ≡ lookup_of ps k
   row-found h =
       rw is (rw (get_d_up_from f c m k (plan 0 0 0) h) at (lookup_found (map f (up_from c m)) k (omega (arith, size))))
 
 -- ---- with given first two slots
 
 module _ (r : Rule) (d a b k : ℕ) where
-  pub after_none : second_follows r d a b ≡ false → Counted 0 ≡ lookup_of (plans_after r d a b) k
+  pub after_none : second_follows r d a b ≡ false → Err 0 ≡ lookup_of (plans_after r d a b) k
   unfolding plans_after
   after_none p = rw p (lookup_counted _ k (omega arith))
 
@@ -43,10 +43,10 @@ module _ (r : Rule) (d a b k : ℕ) where
     unfolding plans_after
     run = rw p (ap (map (plan a b)) t.row)
 
-    pub after_counted : m ≤ k → Counted m ≡ lookup_of (plans_after r d a b) k
+    pub after_counted : m ≤ k → Err m ≡ lookup_of (plans_after r d a b) k
     after_counted h = row-counted (plan a b) c m k run h
 
-    pub after_found : k < m → Found (plan a b (c + k)) ≡ lookup_of (plans_after r d a b) k
+    pub after_found : k < m → Ok (plan a b (c + k)) ≡ lookup_of (plans_after r d a b) k
     after_found h = row-found (plan a b) c m k run h
 
 -- ---- with a given first slot, under a rule of two
@@ -92,8 +92,8 @@ module _ (r : Rule) (d a : ℕ) (two : is_of_two r ≡ true) where
         pairs (range_at r 1).first ((range_at r 1).last + 1 - (range_at r 1).first) (omega arith) (omega arith)
         ∙ ap (map pair) t.row
 
-    pub pairs_counted : (k : ℕ) → m ≤ k → Counted m ≡ lookup_of (plans_from r d a) k
+    pub pairs_counted : (k : ℕ) → m ≤ k → Err m ≡ lookup_of (plans_from r d a) k
     pairs_counted k h = row-counted pair c m k all h
 
-    pub pairs_found : (k : ℕ) → k < m → Found (plan a (c + k) no_slot) ≡ lookup_of (plans_from r d a) k
+    pub pairs_found : (k : ℕ) → k < m → Ok (plan a (c + k) no_slot) ≡ lookup_of (plans_from r d a) k
     pairs_found k h = row-found pair c m k all h

@@ -1,4 +1,5 @@
 -- A search through blocks of plans, one after the other: how many plans were passed, and what stands at index k.
+use Rattle.std.specs.Prelude.{Ok, Err}
 use mathlib.Core.Path.{◌≡◌, ◌∙◌}
 use mathlib.Core.List.{List, ◌++◌, flat_map, append-nil}
 use Prim.Native.Nat.{ℕ, suc, ◌+◌, ◌-◌, ◌≤◌, ◌<◌}
@@ -8,7 +9,6 @@ use lib.Seq.{get_or-append-add}
 use Rattle.base_lists.specs.Lists.{up_from}
 use Rattle.base_lists.proofs.UpFrom.{up_from_add, flat_map_append}
 use Rattle.plan_slots.specs.declared.SlotPlan.{SlotPlan}
-use Rattle.plan_slots.specs.declared.Lookup.TheVariants.{Found, Counted}
 use Rattle.plan_slots.specs.Plan.{plan}
 use Rattle.plan_slots.specs.Search.{lookup_of}
 use Rattle.plan_slots.proofs.Lookups.{lookup_found, lookup_counted, is_found, is_counted}
@@ -50,7 +50,7 @@ module _ (f : ℕ → List SlotPlan) (lo hi : ℕ) where
 
   -- the search in block i found the plan at index k, or passed m plans more
   pub found : {k i n : ℕ} {p : SlotPlan} → Passed k i n → i < hi
-      → Found p ≡ lookup_of (f i) (k - n) → Found p ≡ lookup_of (up_to hi) k
+      → Ok p ≡ lookup_of (f i) (k - n) → Ok p ≡ lookup_of (up_to hi) k
   found {k} {i} {n} {p} s h e =
       let w = is_found (f i) (k - n) e in
       let at : length (up_to i) + (k - n) ≡ k = omega arith in
@@ -60,7 +60,7 @@ module _ (f : ℕ → List SlotPlan) (lo hi : ℕ) where
       ∙ get_or-append (f i) (rest i) (plan 0 0 0) (k - n) w.0 in
       rw (split i s.low h, w.1, ← there) (lookup_found _ k inside)
 
-  pub at_next : {k i n m : ℕ} → Passed k i n → i < hi → Counted m ≡ lookup_of (f i) (k - n) → Passed k (i + 1) (n + m)
+  pub at_next : {k i n m : ℕ} → Passed k i n → i < hi → Err m ≡ lookup_of (f i) (k - n) → Passed k (i + 1) (n + m)
   at_next {k} {i} {n} {m} s h e =
       let w = is_counted (f i) (k - n) e in
       record {
@@ -70,7 +70,7 @@ module _ (f : ℕ → List SlotPlan) (lo hi : ℕ) where
         before = omega arith;
       }
 
-  pub at_end : {k i n : ℕ} → Passed k i n → hi ≤ i → Counted n ≡ lookup_of (up_to hi) k
+  pub at_end : {k i n : ℕ} → Passed k i n → hi ≤ i → Err n ≡ lookup_of (up_to hi) k
   at_end {k} {i} {n} s h =
       let same : hi - lo ≡ i - lo = omega arith in
       rw (same, s.count) (lookup_counted (up_to i) k (omega arith))

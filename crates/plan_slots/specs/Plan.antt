@@ -1,6 +1,6 @@
 -- Slot plans (document 01, "Slot plan"): the rule of a level, when a plan is lawful, all lawful plans in order, and the
 -- plan that a draw picks.
-use Rattle.std.specs.Prelude.{Bool, true, not, cond, ◌&&◌, ℕ, ◌+◌, ◌-◌, ◌*◌, ◌%◌, length, get_or, leb, ltb, eqb}
+use Rattle.std.specs.Prelude.{Bool, true, not, cond, ◌&&◌, ℕ, ◌+◌, ◌-◌, ◌*◌, ◌%◌, length, get_or, leb, ltb, eqb, Result, Ok, Err}
 use mathlib.Core.List.{List, [], ◌∷◌, map, flat_map}
 use Rattle.base_lists.specs.Lists.{keep, up_from}
 use Rattle.base_refusal.specs.Number.{number_of}
@@ -9,8 +9,6 @@ use Rattle.base_refusal.specs.declared.Refusal.TheVariants.{NoPlan, Argument}
 use Rattle.plan_slots.specs.declared.SlotRange.{SlotRange}
 use Rattle.plan_slots.specs.declared.Rule.{Rule}
 use Rattle.plan_slots.specs.declared.SlotPlan.{SlotPlan}
-use Rattle.plan_slots.specs.declared.Planned.{Planned}
-use Rattle.plan_slots.specs.declared.Planned.TheVariants.{Slots, Refused}
 
 -- ── rules ──
 
@@ -122,9 +120,9 @@ abbrev pub planned : SlotPlan → PlanAnswer
 planned p = record { number = 0; slots = p }
 
 -- the answer of a result of the code
-abbrev pub answer_of : Planned → PlanAnswer
-answer_of (Slots p) = planned p
-answer_of (Refused e) = no_plan e
+abbrev pub answer_of : Result SlotPlan Refusal → PlanAnswer
+answer_of (Ok p) = planned p
+answer_of (Err e) = no_plan e
 
 -- of N plans, the one with index draw mod N, counted from 0; 9 if N = 0
 unfoldable pub drawn : List SlotPlan → ℕ → PlanAnswer

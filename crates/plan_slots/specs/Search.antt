@@ -1,12 +1,10 @@
 -- What the search inside the crate finds, for the contracts of its private functions. No public contract cites these.
-use Rattle.std.specs.Prelude.{◌≡◌, Bool, cond, ◌&&◌, ℕ, ◌+◌, ◌≤◌, length, get_or, leb, ltb, eqb}
+use Rattle.std.specs.Prelude.{◌≡◌, Bool, cond, ◌&&◌, ℕ, ◌+◌, ◌^◌, ◌≤◌, ◌<◌, length, get_or, leb, ltb, eqb, Result, Ok, Err}
 use mathlib.Core.List.{List, [], map, flat_map}
 use Rattle.base_lists.specs.Lists.{keep, up_from}
 use Rattle.plan_slots.specs.declared.SlotRange.{SlotRange}
 use Rattle.plan_slots.specs.declared.Rule.{Rule}
 use Rattle.plan_slots.specs.declared.SlotPlan.{SlotPlan}
-use Rattle.plan_slots.specs.declared.Lookup.{Lookup}
-use Rattle.plan_slots.specs.declared.Lookup.TheVariants.{Found, Counted}
 use Rattle.plan_slots.specs.Plan.{plan, within, no_slot, start_of, end_of, is_of_two, range_at, slots_in, third_slots}
 
 -- ---- a lawful plan, slot by slot
@@ -38,8 +36,17 @@ passes r d p =
 -- ---- what the search finds
 
 -- the plan at index k of a list, or the length of the list if it is too short
-unfoldable pub lookup_of : List SlotPlan → ℕ → Lookup
-lookup_of ps k = cond (ltb k (length ps)) (Found (get_or ps k (plan 0 0 0))) (Counted (length ps))
+unfoldable pub lookup_of : List SlotPlan → ℕ → Result SlotPlan ℕ
+lookup_of ps k = cond (ltb k (length ps)) (Ok (get_or ps k (plan 0 0 0))) (Err (length ps))
+
+-- a function of a slot and an index finds the plan at the index among those that f has for the slot
+abbrev pub LooksUp : (ℕ → ℕ → Result SlotPlan ℕ → Type 0) → (ℕ → List SlotPlan) → Type 0
+LooksUp gives f =
+    (slot k : ℕ) (r : Result SlotPlan ℕ) → slot < 256 → k < 2 ^ 64 → gives slot k r → r ≡ lookup_of (f slot) k
+
+-- how many plans it says that a slot has, where there is none at the index, is at most the index
+abbrev pub CountsAtMost : (ℕ → ℕ → Result SlotPlan ℕ → Type 0) → Type 0
+CountsAtMost gives = (slot k n : ℕ) → slot < 256 → k < 2 ^ 64 → gives slot k (Err n) → n ≤ k
 
 -- the slots of a range that fit are n numbers from a on, all below 256
 pub record IsRow (s : SlotRange) (d from end a n : ℕ) : Type 0 where

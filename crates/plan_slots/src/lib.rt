@@ -1,14 +1,15 @@
 // Slot plans (document 01, "Slot plan"): which 1 ms slots the transmissions of a telegram use.
 #![tactic(auto)]
 
-ghost use Rattle.std.specs.Prelude.{◌≡◌, true, ◌≤◌, min, max};
-ghost use Rattle.plan_slots.specs.Plan.{answer_of, plan_of, standard_rule, plans, drawn, lawful, within, is_of_two};
-ghost use Rattle.plan_slots.specs.Search.{second_follows, third_follows, IsRow, IsThirds, lookup_of, plans_after, plans_from};
+ghost use Rattle.std.specs.Prelude.{◌≡◌, true, ◌≤◌, ℕ, List};
+ghost use mathlib.Core.List.{flat_map};
+ghost use Rattle.plan_slots.specs.Plan.{answer_of, plan_of, is_duration, slots_in, standard_rule, plans, drawn, lawful, within, is_of_two};
+ghost use Rattle.plan_slots.specs.Search.{LooksUp, CountsAtMost, second_follows, third_follows, IsRow, IsThirds, lookup_of, plans_after, plans_from};
 
 use base_refusal::Refusal;
 
 // Slots from first to last; empty if first is above last.
-#[derive(Clone, Copy)]
+#[derive(Clone, Copy, Debug, PartialEq, Eq)]
 pub struct SlotRange {
     pub first: u8,
     pub last: u8,
@@ -16,7 +17,7 @@ pub struct SlotRange {
 
 // A timing rule: the range of each transmission, of which the third may be empty; the shortest pause before the second; and the last end, in
 // microseconds.
-#[derive(Clone, Copy)]
+#[derive(Clone, Copy, Debug, PartialEq, Eq)]
 pub struct Rule {
     pub ranges: [SlotRange; 3],
     pub pause: u32,
@@ -24,18 +25,12 @@ pub struct Rule {
 }
 
 // A slot for each transmission; the third is NO_SLOT if the rule has none.
-#[derive(Clone, Copy)]
+// Kept (code): C hands over 255 as the third slot, and `lawful` and the theorems of specs/Claims.antt speak of this number.
+#[derive(Clone, Copy, Debug, PartialEq, Eq)]
 pub struct SlotPlan {
     pub first: u8,
     pub second: u8,
     pub third: u8,
-}
-
-// A plan, or the reason why there is none: 10 for an argument, 9 if no plan is lawful.
-#[derive(Clone, Copy)]
-pub enum Planned {
-    Slots(SlotPlan),
-    Refused(Refusal),
 }
 
 // The length of a slot, in microseconds.
@@ -91,33 +86,37 @@ pub const MAX_DURATION: u32 = 65_535;
 pub const LAST_END: u32 = 40_000;
 
 // The plan that a draw picks among the lawful ones, for a level and a duration.
-pub fn plan(level: u8, duration: u32, draw: u64) -> Planned
+pub fn plan(level: u8, duration: u32, draw: u64) -> Result<SlotPlan, Refusal>
     ensures { answer_of result ≡ plan_of level duration draw }
 {
-    let allowed = (level <= MAX_LEVEL) & ((1 <= duration) & (duration <= MAX_DURATION));
+    let allowed = (level <= MAX_LEVEL) & is_duration(duration);
     if !allowed {
-        return Planned::Refused(Refusal::Argument);
+        return Err(Refusal::Argument);
     }
     choose(standard_rule(level), duration, draw)
 }
 
 // The plan that a draw picks among the lawful ones under a rule. The first search often counts all plans. Then the second search uses an index below
 // that count, so it finds a plan.
-pub fn choose(rule: Rule, duration: u32, draw: u64) -> Planned
+pub fn choose(rule: Rule, duration: u32, draw: u64) -> Result<SlotPlan, Refusal>
     ensures { answer_of result ≡ drawn (plans rule duration) draw }
 {
     match search(rule, duration, draw) {
-        Lookup::Found(p) => Planned::Slots(p),
-        Lookup::Counted(n) => {
+        Ok(p) => Ok(p),
+        Err(n) => {
             if n < 1 {
-                return Planned::Refused(Refusal::NoPlan);
+                return Err(Refusal::NoPlan);
             }
-            match search(rule, duration, draw % n) {
-                Lookup::Found(p) => Planned::Slots(p),
-                Lookup::Counted(_) => Planned::Refused(Refusal::NoPlan),
-            }
+            search(rule, duration, draw % n).map_err(|_| Refusal::NoPlan)
         }
     }
+}
+
+// Whether a duration is 1 to 65,535.
+pub fn is_duration(duration: u32) -> bool
+    ensures { result ≡ is_duration duration }
+{
+    (1..=MAX_DURATION).contains(&duration)
 }
 
 // Whether a plan is lawful under a rule.
@@ -146,7 +145,7 @@ fn standard_rule(level: u8) -> Rule
 fn in_range(range: SlotRange, slot: u8) -> bool
     ensures { result ≡ within range slot }
 {
-    (range.first <= slot) & (slot <= range.last)
+    (range.first..=range.last).contains(&slot)
 }
 
 // Whether a second slot may follow a first.
@@ -172,58 +171,59 @@ fn third_follows(rule: Rule, duration: u32, second: u8, third: u8) -> bool
     in_range(range, third) & ((ended <= start) & (start + d <= end))
 }
 
-// The result of a search: the plan at an index of a list, or the length of the list if it is too short.
-#[derive(Clone, Copy)]
-enum Lookup {
-    Found(SlotPlan),
-    Counted(u64),
-}
-
 // The lawful plan at index k.
-fn search(rule: Rule, duration: u32, k: u64) -> Lookup
+fn search(rule: Rule, duration: u32, k: u64) -> Result<SlotPlan, u64>
     ensures { result ≡ lookup_of (plans rule duration) k }
 {
-    let range = rule.ranges[0];
-    let low = range.first as u32;
-    let high = range.last as u32 + 1;
-    let mut passed: u64 = 0;
-    for slot in low..high {
-        let found = search_from(rule, duration, slot as u8, k - passed);
-        match found {
-            Lookup::Found(p) => {
-                return Lookup::Found(p);
-            }
-            Lookup::Counted(n) => {
-                passed += n;
-            }
-        }
-    }
-    Lookup::Counted(passed)
+    let firsts = rule.ranges[0];
+    search_slots(
+        firsts,
+        k,
+        |first, at|
+            ensures { result ≡ lookup_of (plans_from rule duration first) at }
+        { search_from(rule, duration, first, at) },
+    )
 }
 
 // The lawful plan at index k among those with this first slot.
-fn search_from(rule: Rule, duration: u32, first: u8, k: u64) -> Lookup
+fn search_from(rule: Rule, duration: u32, first: u8, k: u64) -> Result<SlotPlan, u64>
     ensures { result ≡ lookup_of (plans_from rule duration first) k }
 {
     if is_of_two(rule) {
         return search_pairs(rule, duration, first, k);
     }
-    let range = rule.ranges[1];
-    let low = range.first as u32;
-    let high = range.last as u32 + 1;
+    let seconds = rule.ranges[1];
+    search_slots(
+        seconds,
+        k,
+        |second, at|
+            ensures { result ≡ lookup_of (plans_after rule duration first second) at }
+        { search_after(rule, duration, first, second, at) },
+    )
+}
+
+// Tries the slots of a range in order: `find` says what it finds at an index among the plans of a slot, or how many plans the slot has.
+fn search_slots<F: Fn(u8, u64) -> Result<SlotPlan, u64>>(
+    range: SlotRange,
+    k: u64,
+    find: F,
+) -> Result<SlotPlan, u64>
+    requires callable { F.IsAlwaysCallable find }
+    requires counts { CountsAtMost (F.post find) }
+    ensures { (f : ℕ → List SlotPlan) → LooksUp (F.post find) f → result ≡ lookup_of (flat_map f (slots_in range)) k }
+{
     let mut passed: u64 = 0;
-    for slot in low..high {
-        let found = search_after(rule, duration, first, slot as u8, k - passed);
-        match found {
-            Lookup::Found(p) => {
-                return Lookup::Found(p);
+    for slot in range.first..=range.last {
+        match find(slot, k - passed) {
+            Ok(p) => {
+                return Ok(p);
             }
-            Lookup::Counted(n) => {
+            Err(n) => {
                 passed += n;
             }
         }
     }
-    Lookup::Counted(passed)
+    Err(passed)
 }
 
 // Whether the rule has no third transmission.
@@ -235,7 +235,7 @@ fn is_of_two(rule: Rule) -> bool
 }
 
 // The same under a rule of two transmissions, without a loop: the second slots that may follow are consecutive.
-fn search_pairs(rule: Rule, duration: u32, first: u8, k: u64) -> Lookup
+fn search_pairs(rule: Rule, duration: u32, first: u8, k: u64) -> Result<SlotPlan, u64>
     requires { is_of_two rule ≡ true }
     ensures { result ≡ lookup_of (plans_from rule duration first) k }
 {
@@ -247,10 +247,10 @@ fn search_pairs(rule: Rule, duration: u32, first: u8, k: u64) -> Lookup
         rule.end,
     );
     if run.count <= k {
-        return Lookup::Counted(run.count);
+        return Err(run.count);
     }
     let second = (run.first + k) as u8;
-    Lookup::Found(SlotPlan {
+    Ok(SlotPlan {
         first: first,
         second: second,
         third: NO_SLOT,
@@ -258,18 +258,18 @@ fn search_pairs(rule: Rule, duration: u32, first: u8, k: u64) -> Lookup
 }
 
 // The lawful plan at index k among those with these first two slots.
-fn search_after(rule: Rule, duration: u32, first: u8, second: u8, k: u64) -> Lookup
+fn search_after(rule: Rule, duration: u32, first: u8, second: u8, k: u64) -> Result<SlotPlan, u64>
     ensures { result ≡ lookup_of (plans_after rule duration first second) k }
 {
     if !second_follows(rule, duration, first, second) {
-        return Lookup::Counted(0);
+        return Err(0);
     }
     let run = thirds(rule, duration, second);
     if run.count <= k {
-        return Lookup::Counted(run.count);
+        return Err(run.count);
     }
     let third = (run.first + k) as u8;
-    Lookup::Found(SlotPlan {
+    Ok(SlotPlan {
         first: first,
         second: second,
         third: third,
@@ -310,8 +310,8 @@ fn row(range: SlotRange, duration: u32, from: u64, end: u32) -> Run
     if last < d {
         return Run { first: 0, count: 0 };
     }
-    let low = larger(range.first as u64, (from + 999) / SLOT);
-    let high = smaller(range.last as u64, (last - d) / SLOT);
+    let low = u64::from(range.first).max((from + 999) / SLOT);
+    let high = u64::from(range.last).min((last - d) / SLOT);
     if high < low {
         return Run { first: 0, count: 0 };
     }
@@ -319,16 +319,4 @@ fn row(range: SlotRange, duration: u32, from: u64, end: u32) -> Run
         first: low,
         count: high + 1 - low,
     }
-}
-
-fn larger(x: u64, y: u64) -> u64
-    ensures { result ≡ max x y }
-{
-    if x < y { y } else { x }
-}
-
-fn smaller(x: u64, y: u64) -> u64
-    ensures { result ≡ min x y }
-{
-    if x < y { x } else { y }
 }

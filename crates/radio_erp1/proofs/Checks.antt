@@ -2,14 +2,12 @@
 use Rattle.std.proofs.Common.{◌≡◌, ℕ, ◌-◌, ◌/◌, ◌%◌, ◌<◌, ◌≤◌, false, ◌&&◌, ltb, List, [], ◌∷◌, length, get_or, take, sym, refl, ap, ◌∙◌, arith, length-take-le, get_or-take, take-take, ltb-false, le-ltb, lt-ltb, eq-eqb, ne_eqb, eqb-true}
 use borrow.Author.Tests.{eqb-false, not-false}
 use Rattle.base_lists.proofs.Choice.{cond_no, neither}
-use Rattle.base_refusal.specs.Number.{number_of}
+use Rattle.base_refusal.specs.Number.{number_of, outcome_number}
 use Rattle.base_refusal.specs.declared.Refusal.{Refusal}
 use Rattle.base_refusal.specs.declared.Refusal.TheVariants.{Length, Nested}
 use Rattle.base_refusal.proofs.Numbers.{refused-number}
 use Rattle.base_crc8.specs.Crc8.{crc_of}
-use Rattle.radio_erp1.specs.declared.Checked.{Checked}
-use Rattle.radio_erp1.specs.declared.Checked.TheVariants.{Valid, Refused}
-use Rattle.radio_erp1.specs.Subtelegram.{min_length, max_length, min_addressed_length, addressed, sum_of, last_byte, body_of, status_of, hash_of, wrong_hash, is_addressed, is_nested, check_of, is_valid, checked_number, before_status}
+use Rattle.radio_erp1.specs.Subtelegram.{min_length, max_length, min_addressed_length, addressed, sum_of, last_byte, body_of, status_of, hash_of, wrong_hash, is_addressed, is_nested, check_of, is_valid, before_status}
 
 -- ---- the two hashes
 
@@ -103,15 +101,6 @@ check_facts s e =
       hashed = eqb-true _ _ (not-false _ q.0);
       inner = λ a. (ltb-false _ _ (rw (eq-eqb _ _ a) at long), eqb-false _ _ (rw (eq-eqb _ _ a) at once));
     }
-
--- ---- what the answer of `check` tells of the bytes
-
-module _ (s : List ℕ) (r : Checked) (e : checked_number r ≡ check_of s) where
-  pub told-valid : r ≡ Valid → check_of s ≡ 0
-  told-valid t = sym e ∙ ap checked_number t
-
-  pub told-refused : (why : Refusal) → r ≡ Refused why → number_of why ≡ check_of s
-  told-refused why t = sym (ap checked_number t) ∙ e
 
 -- a refusal's number is not that of a valid one
 pub not_valid : (s : List ℕ) (why : Refusal) → number_of why ≡ check_of s → is_valid s ≡ false

@@ -1,5 +1,5 @@
 -- Joining the parts of STATUS undoes its splitting.
-use Rattle.std.proofs.Common.{◌≡◌, ℕ, ◌/◌, ◌<◌, Bool, true, false, eqb, refl, arith, eqb-true}
+use Rattle.std.proofs.Common.{◌≡◌, ◌/◌, Bool, true, false, eqb, refl, arith, eqb-true}
 use borrow.Author.Tests.{eqb-false}
 use Rattle.radio_erp1.specs.Status.{split_of, join_of}
 use Rattle.radio_erp1.specs.Claims.{JoinSplit}

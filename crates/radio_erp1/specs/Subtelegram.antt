@@ -4,8 +4,6 @@ use Rattle.base_refusal.specs.Number.{number_of}
 use Rattle.base_refusal.specs.declared.Refusal.{Refusal}
 use Rattle.base_refusal.specs.declared.Refusal.TheVariants.{Length, Sum, Crc, Nested}
 use Rattle.base_crc8.specs.Crc8.{crc_of}
-use Rattle.radio_erp1.specs.declared.Checked.{Checked}
-use Rattle.radio_erp1.specs.declared.Checked.TheVariants.{Valid, Refused}
 use Rattle.radio_erp1.specs.Status.{split_of}
 
 -- the house limits: the length of a subtelegram, and of an addressed one
@@ -84,8 +82,3 @@ check_of s =
 -- "valid means all pass"
 abbrev pub is_valid : List ℕ → Bool
 is_valid s = check_of s == 0
-
--- the number of each answer of a check
-abbrev pub checked_number : Checked → ℕ
-checked_number Valid = 0
-checked_number (Refused why) = number_of why

@@ -4,8 +4,9 @@
 pub mod status;
 
 ghost use Rattle.std.specs.Prelude.{◌≡◌, ◌+◌, ◌%◌, ◌≤◌, length, take};
+ghost use Rattle.base_refusal.specs.Number.{outcome_number};
 ghost use Rattle.base_lists.specs.Lists.{equal};
-ghost use Rattle.radio_erp1.specs.Subtelegram.{sum_of, hash_of, wrong_hash, check_of, checked_number};
+ghost use Rattle.radio_erp1.specs.Subtelegram.{sum_of, hash_of, wrong_hash, check_of};
 ghost use Rattle.radio_erp1.specs.Same.{is_same};
 ghost use Rattle.radio_erp1.specs.Private.{SameBytes};
 
@@ -21,38 +22,31 @@ pub const MIN_ADDRESSED_LEN: usize = 13;
 // RORG of an addressed telegram.
 pub const ADDRESSED: u8 = 0xA6;
 
-// The result of a check.
-#[derive(Clone, Copy)]
-pub enum Checked {
-    Valid,
-    Refused(Refusal),
-}
-
 // The check, with the tests in document 01's order.
-pub fn check(bytes: &[u8]) -> Checked
-    ensures { checked_number result ≡ check_of bytes.now }
+pub fn check(bytes: &[u8]) -> Result<(), Refusal>
+    ensures { outcome_number result ≡ check_of bytes.now }
 {
     let n = bytes.len();
     if n < MIN_LEN {
-        return Checked::Refused(Refusal::Length);
+        return Err(Refusal::Length);
     }
     if MAX_LEN < n {
-        return Checked::Refused(Refusal::Length);
+        return Err(Refusal::Length);
     }
     let last = n - 1;
     if bytes[last] != hash(&bytes[..last]) {
-        return Checked::Refused(wrong_hash(bytes[n - 2]));
+        return Err(wrong_hash(bytes[n - 2]));
     }
     if bytes[0] != ADDRESSED {
-        return Checked::Valid;
+        return Ok(());
     }
     if n < MIN_ADDRESSED_LEN {
-        return Checked::Refused(Refusal::Length);
+        return Err(Refusal::Length);
     }
     if bytes[1] == ADDRESSED {
-        return Checked::Refused(Refusal::Nested);
+        return Err(Refusal::Nested);
     }
-    Checked::Valid
+    Ok(())
 }
 
 // Why a wrong HASH is refused: STATUS selects the hash.
@@ -103,8 +97,9 @@ fn sum(bytes: &[u8]) -> u8
     ensures { result ≡ sum_of bytes.now % 256 }
 {
     let mut sum: u8 = 0;
+    // Kept (loop): tried: speed. `for b in bytes` took a third longer for 12 bytes.
     for i in 0..bytes.len() {
-        sum = std::num::wrapping_add_u8(sum, bytes[i]);
+        sum = sum.wrapping_add(bytes[i]);
     }
     sum
 }
@@ -115,54 +110,30 @@ fn agree(a: &[u8], b: &[u8], n: usize) -> bool
     requires { (n ≤ length a.now) × (n ≤ length b.now) }
     ensures { result ≡ equal (take n a.now) (take n b.now) }
 {
-    if (8 <= n) & (n <= 16) {
-        if !agree_eight(a, b, n - 8) {
-            return false;
-        }
-        return agree_eight(a, b, 0);
+    match n {
+        8..=16 => agree_ends::<8>(a, b, n),
+        4..=7 => agree_ends::<4>(a, b, n),
+        _ => a[..n] == b[..n],
     }
-    if (4 <= n) & (n < 8) {
-        if !agree_four(a, b, n - 4) {
-            return false;
-        }
-        return agree_four(a, b, 0);
-    }
-    agree_each(a, b, n)
 }
 
-// Whether eight bytes agree. There is no branch before all are read, so they are compared at once.
-fn agree_eight(a: &[u8], b: &[u8], from: usize) -> bool
-    requires { (from + 8 ≤ length a.now) × (from + 8 ≤ length b.now) }
-    ensures { SameBytes a.now b.now from 8 result }
-{
-    let mut all = true;
-    for k in 0..8 {
-        all = all & (a[from + k] == b[from + k]);
-    }
-    all
-}
-
-fn agree_four(a: &[u8], b: &[u8], from: usize) -> bool
-    requires { (from + 4 ≤ length a.now) × (from + 4 ≤ length b.now) }
-    ensures { SameBytes a.now b.now from 4 result }
-{
-    let mut all = true;
-    for k in 0..4 {
-        all = all & (a[from + k] == b[from + k]);
-    }
-    all
-}
-
-fn agree_each(a: &[u8], b: &[u8], n: usize) -> bool
-    requires { (n ≤ length a.now) × (n ≤ length b.now) }
+// Whether the last W and the first W of `n` bytes agree, which are all of them.
+fn agree_ends<const W: usize>(a: &[u8], b: &[u8], n: usize) -> bool
+    requires { (n ≤ length a.now) × (n ≤ length b.now) × (W ≤ n) × (n ≤ W + W) }
     ensures { result ≡ equal (take n a.now) (take n b.now) }
 {
-    let mut i = n;
-    while 0 < i {
-        i -= 1;
-        if a[i] != b[i] {
-            return false;
-        }
+    agree_block::<W>(a, b, n - W) && agree_block::<W>(a, b, 0)
+}
+
+// Whether W bytes agree. There is no branch before all are read, so they are compared at once.
+// Kept (loop): no branch before all bytes are read, so that they are compared at once (speed).
+fn agree_block<const W: usize>(a: &[u8], b: &[u8], from: usize) -> bool
+    requires { (from + W ≤ length a.now) × (from + W ≤ length b.now) }
+    ensures { SameBytes a.now b.now from W result }
+{
+    let mut all = true;
+    for k in 0..W {
+        all = all & (a[from + k] == b[from + k]);
     }
-    true
+    all
 }

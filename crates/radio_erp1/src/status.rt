@@ -13,6 +13,7 @@ pub struct Status {
 }
 
 // The parts of a STATUS byte.
+// Kept (conversion): contracts and edits name it, and From would say the same without a name.
 pub fn split(status: u8) -> Status
     ensures { result ≡ split_of status }
 {
@@ -24,6 +25,7 @@ pub fn split(status: u8) -> Status
 }
 
 // The byte with these parts. If the level or the flags are too large, only the bits that fit are used.
+// Kept (conversion): contracts and edits name it, and From would say the same without a name.
 pub fn join(s: Status) -> u8
     ensures { result ≡ join_of s }
 {

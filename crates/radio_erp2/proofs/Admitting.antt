@@ -10,7 +10,7 @@ use Rattle.base_refusal.specs.Number.{number_of}
 use Rattle.base_refusal.specs.declared.Refusal.TheVariants.{Argument, ReservedAddress, Misfit}
 use Rattle.base_refusal.proofs.Numbers.{refused-number}
 use Rattle.radio_erp2_model.specs.declared.Telegram.{Telegram}
-use Rattle.radio_erp2_model.specs.Header.{is_reserved}
+use Rattle.radio_erp2_model.specs.Header.{is_reserved, announced_of}
 use Rattle.radio_erp2_model.specs.Sizes.{short_sizes, long_sizes, overhead}
 use Rattle.radio_erp2_model.specs.Building.{is_short_form, sizes_for, telegram_size, is_unholdable, is_against_header, is_misfitting}
 use Rattle.radio_erp2_model.specs.Bounds.{Buildable}
@@ -28,13 +28,13 @@ module _ (t : Telegram) where
   pub for_high : (sizes_for t).originator ≤ 6
   for_high = by_form_high (is_short_form t) refl
 
-  by_form_small : t.extension.announced < 256 → (x : Bool) → is_short_form t ≡ x → overhead (sizes_for t) ≤ 300
+  by_form_small : announced_of t.extension < 256 → (x : Bool) → is_short_form t ≡ x → overhead (sizes_for t) ≤ 300
   by_form_small b true f =
       let o = short-high t.short in
       rw f (omega arith)
-  by_form_small b false f = rw f (long-small t.header t.extension.announced b)
+  by_form_small b false f = rw f (long-small t.header (announced_of t.extension) b)
 
-  pub for_small : t.extension.announced < 256 → overhead (sizes_for t) ≤ 300
+  pub for_small : announced_of t.extension < 256 → overhead (sizes_for t) ≤ 300
   for_small b = by_form_small b (is_short_form t) refl
 
   -- ---- admission
@@ -94,8 +94,8 @@ module _ (t : Telegram) where
       rw (f, n)
   by_form_long_data s h false f =
       let o = originator-low t.header.control in
-      let n : ltb 255 (overhead (long_sizes t.header t.extension.announced) + t.len) ≡ true
-      = lt-ltb 255 (overhead (long_sizes t.header t.extension.announced) + t.len) (omega arith) in
+      let n : ltb 255 (overhead (long_sizes t.header (announced_of t.extension)) + t.len) ≡ true
+      = lt-ltb 255 (overhead (long_sizes t.header (announced_of t.extension)) + t.len) (omega arith) in
       simp (f, n, or-true)
 
   pub long_data : t.short ≤ 6 → 250 < t.len → true ≡ is_misfitting t

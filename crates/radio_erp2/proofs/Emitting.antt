@@ -13,7 +13,7 @@ use Rattle.base_refusal.specs.declared.Refusal.TheVariants.{Argument, ReservedAd
 use Rattle.base_refusal.proofs.Numbers.{refused-number}
 use Rattle.radio_telegram.specs.Output.{Result, refused, written}
 use Rattle.radio_erp2_model.specs.declared.Telegram.{Telegram}
-use Rattle.radio_erp2_model.specs.Header.{is_reserved}
+use Rattle.radio_erp2_model.specs.Header.{is_reserved, announced_of}
 use Rattle.radio_erp2_model.specs.Sizes.{long_sizes, overhead}
 use Rattle.radio_erp2_model.specs.Building.{is_short_form, sizes_for, telegram_size, is_unholdable, is_against_header, is_misfitting, bytes_by_size, body_of, seal_of, erp2_bytes, build_of}
 use Rattle.radio_erp2_model.specs.Claims.{Shaped}
@@ -99,10 +99,9 @@ module _ (t : Telegram) (v : Buildable t) (n : ℕ) (room : 1 + telegram_size t 
   by_form_laid false f =
       let w = long_facts t v f in
       let m : overhead (sizes_for t) + t.len ≤ 255 = w.high in
-      let k : overhead (long_sizes t.header t.extension.announced) + t.len ≤ 255 = rw f at m in
+      let k : overhead (long_sizes t.header (announced_of t.extension)) + t.len ≤ 255 = rw f at m in
       let o = originator-low t.header.control in
-      let p : cond t.header.extended t.extension.announced 0 ≤ 15 =
-      rw w.extension at (optional-high t w t.extension.present refl) in
+      let p : cond t.header.extended (announced_of t.extension) 0 ≤ 15 = optional-high t w t.header.extended in
       record {
         size = m;
         room = omega arith;

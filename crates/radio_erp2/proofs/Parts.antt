@@ -1,6 +1,11 @@
 -- Short parts as numbers, and lookups in the tables of sizes.
-use mathlib.Core.Path.{◌≡◌, refl}
+use mathlib.Core.Path.{◌≡◌, refl, ap, ◌∙◌}
+use lib.Seq.{take_all}
+use mathlib.Core.Bool.{Bool, true, false, cond, not, beq}
 use mathlib.Core.List.{List, [], ◌∷◌}
+use Rattle.std.specs.Bool.{then_some}
+use Rattle.std.specs.Prelude.{Some, None, unwrap_or, slice_get}
+use Rattle.radio_erp2_model.specs.Building.{differ}
 use Prim.Native.Nat.{ℕ, zero, suc, ◌+◌, ◌-◌, ◌^◌, ◌≤◌, ◌<◌}
 use native.Mathlib.Nat.{pow-le-pow_right}
 use native.Mathlib.Omega.{arith}
@@ -10,51 +15,26 @@ use Rattle.base_buffers.proofs.Segments.{part-ends}
 use Rattle.block_layout.specs.BigEndian.{unbe, unbe_from}
 use Rattle.radio_erp2_model.specs.Sizes.{originators, short_originators}
 
-pub unbe_none : (xs : List ℕ) → length xs ≡ 0 → 0 ≡ unbe xs
+pub first_number : (xs : List ℕ) → length xs ≤ 1 → unwrap_or (slice_get xs 0) 0 ≡ unbe xs
 unfolding unbe unbe_from
-unbe_none [] e = refl
-unbe_none (x ∷ xs) e = absurd (over (length xs) e)
-  where
-    over : (n : ℕ) → suc n ≡ 0 → ⊥
-    over n h = omega arith
-
-pub unbe_one : (xs : List ℕ) → 0 < length xs → length xs ≤ 1 → get_or xs 0 0 ≡ unbe xs
-unfolding unbe unbe_from
-unbe_one [] h k = absurd (under h)
-  where
-    under : 0 < 0 → ⊥
-    under h = omega arith
-unbe_one (x ∷ []) h k = omega arith
-unbe_one (x ∷ y ∷ xs) h k = absurd (over (length xs) k)
+first_number [] h = refl
+first_number (x ∷ []) h = omega arith
+first_number (x ∷ y ∷ xs) h = absurd (over (length xs) h)
   where
     over : (n : ℕ) → suc (suc n) ≤ 1 → ⊥
     over n h = omega arith
 
-pub known-control : (c d e : ℕ) → c < 4 → get_or originators c d ≡ get_or originators c e
-known-control zero d e h = refl
-known-control (suc zero) d e h = refl
-known-control (suc (suc zero)) d e h = refl
-known-control (suc (suc (suc zero))) d e h = refl
-known-control (suc (suc (suc (suc c)))) d e h = absurd (over c h)
-  where
-    over : (n : ℕ) → suc (suc (suc (suc n))) < 4 → ⊥
-    over n h = omega arith
+-- a value that is there by a flag
+pub then_cond : {A : Type 0} (b : Bool) (x : A) → then_some b x ≡ cond b (Some x) None
+then_cond true x = refl
+then_cond false x = refl
 
-pub other-control : (c : ℕ) → 4 ≤ c → ◌≡◌ {A = ℕ} 6 (get_or originators c 6)
-other-control zero h = absurd (under h)
-  where
-    under : 4 ≤ zero → ⊥
-    under h = omega arith
-other-control (suc zero) h = absurd (under h)
-  where
-    under : 4 ≤ suc zero → ⊥
-    under h = omega arith
-other-control (suc (suc zero)) h = absurd (under h)
-  where
-    under : 4 ≤ suc (suc zero) → ⊥
-    under h = omega arith
-other-control (suc (suc (suc zero))) h = refl
-other-control (suc (suc (suc (suc c)))) h = refl
+-- two tests that are not the same answer
+pub not_same : (a b : Bool) → not (beq a b) ≡ differ a b
+not_same true true = refl
+not_same true false = refl
+not_same false true = refl
+not_same false false = refl
 
 -- four bytes fit 32 bits
 pub four_lt : (i n : ℕ) → i ≤ 4 → n < 256 ^ i → n < 2 ^ 32
@@ -67,37 +47,6 @@ take_short n m xs h = rw (length-take n xs) (omega arith)
 
 pub part-short : (a n m : ℕ) (xs : List ℕ) → n ≤ m → length (part a (a + n - a) xs) ≤ m
 part-short a n m xs h = rw (part-ends a n xs) (take_short n m (drop a xs) h)
-
-pub no_originator : (l : ℕ) → 6 < l → ◌≡◌ {A = ℕ} 0 (get_or short_originators l 0)
-no_originator zero h = absurd (under h)
-  where
-    under : 6 < zero → ⊥
-    under h = omega arith
-no_originator (suc zero) h = absurd (under h)
-  where
-    under : 6 < (suc zero) → ⊥
-    under h = omega arith
-no_originator (suc (suc zero)) h = absurd (under h)
-  where
-    under : 6 < (suc (suc zero)) → ⊥
-    under h = omega arith
-no_originator (suc (suc (suc zero))) h = absurd (under h)
-  where
-    under : 6 < (suc (suc (suc zero))) → ⊥
-    under h = omega arith
-no_originator (suc (suc (suc (suc zero)))) h = absurd (under h)
-  where
-    under : 6 < (suc (suc (suc (suc zero)))) → ⊥
-    under h = omega arith
-no_originator (suc (suc (suc (suc (suc zero))))) h = absurd (under h)
-  where
-    under : 6 < (suc (suc (suc (suc (suc zero))))) → ⊥
-    under h = omega arith
-no_originator (suc (suc (suc (suc (suc (suc zero)))))) h = absurd (under h)
-  where
-    under : 6 < (suc (suc (suc (suc (suc (suc zero)))))) → ⊥
-    under h = omega arith
-no_originator (suc (suc (suc (suc (suc (suc (suc l))))))) h = refl
 
 -- the limits are the powers of 256
 abbrev limits : List ℕ
@@ -115,3 +64,8 @@ limit_is (suc (suc (suc (suc (suc (suc (suc l))))))) h = absurd (over l h)
   where
     over : (n : ℕ) → suc (suc (suc (suc (suc (suc (suc n)))))) ≤ 6 → ⊥
     over n h = omega arith
+
+-- the number that a part of at most eight bytes spells, as the first eight of its bytes
+pub number-part : (a w : ℕ) (s : List ℕ) → w ≤ 8 → unbe (take 8 (part a (a + w - a) s)) ≡ unbe (part a w s)
+number-part a w s h =
+    ap unbe (ap (take 8) (part-ends a w s) ∙ take_all 8 (part a w s) (take_short w 8 (drop a s) h))

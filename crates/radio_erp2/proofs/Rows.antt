@@ -5,6 +5,7 @@ use Prim.Native.Nat.{ℕ, ◌+◌, ◌-◌, ◌≤◌, ◌<◌}
 use native.Mathlib.Omega.{arith}
 use lib.ListN.{length, take, drop, set}
 use lib.Seq.{take_at, length-take-le}
+use Rattle.std.specs.Prelude.{unwrap_or}
 use Rattle.base_buffers.specs.Buffer.{part, resized}
 use Rattle.block_layout.specs.BigEndian.{be}
 use Rattle.base_buffers.proofs.Buffer.{resized_whole}
@@ -29,14 +30,14 @@ width : (a w : ℕ) → a + w - a ≡ w
 width a w = omega arith
 
 module _ (t : Telegram) (z : Sizes) where
-  pub ids_is : (n : ℕ) → n ≡ t.destination.id → ([] ++ be (z.originator - 0) t.originator) ++ be
+  pub ids_is : (n : ℕ) → n ≡ unwrap_or t.destination 0 → ([] ++ be (z.originator - 0) t.originator) ++ be
       (z.originator + z.destination - z.originator) n ≡ id_bytes t z
   unfolding id_bytes
   ids_is n e =
       let o : z.originator - 0 ≡ z.originator = omega arith in
       rw (e, o, width z.originator z.destination)
 
-  pub head_is : (size h e v : ℕ) → h ≡ header_byte t.header → e ≡ extension_byte t.extension → v ≡ t.subtype.value
+  pub head_is : (size h e v : ℕ) → h ≡ header_byte t.header → e ≡ extension_byte t.extension → v ≡ unwrap_or t.subtype 0
       → (([] ++ (size ∷ [])) ++ be (1 + z.header - 1) h ++ be (1 + z.header + z.extension - (1 + z.header)) e)
       ++ be (1 + z.header + z.extension + z.subtype - (1 + z.header + z.extension)) v
       ≡ before_ids t z size
@@ -56,11 +57,11 @@ module _ (t : Telegram) (z : Sizes) where
       (n : t.len ≤ 250) (p : z.optional ≤ 15) where
     pub data_is : [] ++ resized (t.len - 0) (part 0 (t.len - 0) t.payload)
         ++ resized (t.len + z.optional - t.len)
-        (part 0 (t.len + z.optional - t.len - 0) t.optional) ≡ data_bytes t z
+        (part 0 (z.optional - 0) t.optional) ≡ data_bytes t z
     unfolding data_bytes
     data_is =
         let a : t.len - 0 ≡ t.len = omega arith in
-        let c : t.len + z.optional - t.len - 0 ≡ z.optional = omega arith in
+        let c : z.optional - 0 ≡ z.optional = omega arith in
         rw (
           c,
           a,
@@ -75,8 +76,8 @@ module _ (t : Telegram) (z : Sizes) where
   unfolding before_ids id_bytes data_bytes
   row_is size =
       joined size (be z.header (header_byte t.header))
-      (be z.extension (extension_byte t.extension)) (be z.subtype t.subtype.value)
-      (be z.originator t.originator) (be z.destination t.destination.id)
+      (be z.extension (extension_byte t.extension)) (be z.subtype (unwrap_or t.subtype 0))
+      (be z.originator t.originator) (be z.destination (unwrap_or t.destination 0))
       (take t.len t.payload) (take z.optional t.optional)
 
   -- ---- what the output then holds

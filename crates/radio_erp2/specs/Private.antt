@@ -1,5 +1,5 @@
 -- What the contracts of private functions say. No public contract cites these.
-use Rattle.std.specs.Prelude.{ℕ, ◌+◌, ◌≤◌, cond, not, ◌&&◌, ◌||◌, List, [], ◌∷◌, ◌++◌, eqb, take, drop}
+use Rattle.std.specs.Prelude.{ℕ, ◌+◌, ◌≤◌, cond, not, ◌&&◌, ◌||◌, List, [], ◌∷◌, ◌++◌, eqb, take, drop, unwrap_or}
 use Rattle.base_crc8.specs.Crc8.{crc_of}
 use Rattle.block_layout.specs.BigEndian.{be}
 use Rattle.base_refusal.specs.Number.{number_of}
@@ -22,10 +22,10 @@ admission_of t =
 unfoldable pub before_ids : Telegram → Sizes → ℕ → List ℕ
 before_ids t z size =
     (size ∷ []) ++ be z.header (header_byte t.header) ++ be z.extension (extension_byte t.extension)
-    ++ be z.subtype t.subtype.value
+    ++ be z.subtype (unwrap_or t.subtype 0)
 
 unfoldable pub id_bytes : Telegram → Sizes → List ℕ
-id_bytes t z = be z.originator t.originator ++ be z.destination t.destination.id
+id_bytes t z = be z.originator t.originator ++ be z.destination (unwrap_or t.destination 0)
 
 unfoldable pub data_bytes : Telegram → Sizes → List ℕ
 data_bytes t z = data_of t ++ take z.optional t.optional

@@ -2,23 +2,18 @@
 #![tactic(auto)]
 
 ghost use Rattle.std.specs.Prelude.{◌≡◌, cond, ◌+◌, ◌^◌, ◌≤◌, ◌<◌, length, get_or, leb};
-ghost use Rattle.base_lists.specs.Lists.{padded};
+ghost use Rattle.base_refusal.specs.Number.{outcome_number};
 ghost use Rattle.block_layout.specs.BigEndian.{unbe};
-ghost use Rattle.radio_erp1.specs.Subtelegram.{checked_number};
-ghost use Rattle.radio_erp2_model.specs.Header.{header_fields, header_byte, extension_byte};
+ghost use Rattle.radio_erp2_model.specs.Header.{header_fields, header_byte, extension_byte, announced_of};
 ghost use Rattle.radio_erp2_model.specs.Sizes.{max_short, short_originators, originators, short_sizes, long_sizes, overhead as overhead_of};
-ghost use Rattle.radio_erp2_model.specs.Reading.{sizes_in, fields_by_size, fields_of, check_of, shown_erp2_reading, read_of, no_telegram};
-ghost use Rattle.radio_erp2_model.specs.Building.{sizes_for, is_unholdable, differ as differing, is_against_header, is_misfitting, build_of};
+ghost use Rattle.radio_erp2_model.specs.Reading.{sizes_in, fields_by_size, fields_of, check_of, shown_erp2_reading, read_of};
+ghost use Rattle.radio_erp2_model.specs.Building.{sizes_for, is_extension_over, is_unholdable, is_against_header, is_misfitting, build_of};
 ghost use Rattle.radio_telegram.specs.Output.{result_of};
 ghost use Rattle.radio_erp2_model.specs.Bounds.{Fitting, Placed, Buildable};
 ghost use Rattle.radio_erp2.specs.Private.{FitsOutput, row_written, before_ids, id_bytes, data_bytes, admission_of};
 
 use base_refusal::Refusal;
-use radio_erp1::Checked;
-use radio_erp2_model::{
-    Destination, Extension, Header, MAX_DATA, MAX_OPTIONAL, Reading, Sizes, Subtype, Telegram,
-};
-use radio_telegram::frame::Built;
+use radio_erp2_model::{Extension, Header, MAX_DATA, Sizes, Telegram};
 
 // The longest Data_PL of a short form, and the shortest and longest of a long one.
 const MAX_SHORT: usize = 6;
@@ -36,53 +31,35 @@ const ADDRESSED: u8 = 2;
 const EXTENDED_TYPE: u8 = 15;
 
 // Reads a length byte and Data_PL. Refused, in this order: a wrong length (1), and for a long form a wrong CRC (13), a reserved address control (14),
-// fields that do not fit (15); then everything is zero.
-pub fn read(bytes: &[u8]) -> Reading
+// fields that do not fit (15).
+pub fn read(bytes: &[u8]) -> Result<Telegram, Refusal>
     ensures { shown_erp2_reading result ≡ read_of bytes.now }
 {
-    let checked = check(bytes);
-    match checked {
-        Checked::Refused(why) => {
-            let t = none();
-            Reading {
-                checked: Checked::Refused(why),
-                telegram: t,
-            }
-        }
-        Checked::Valid => {
-            let t = fields(bytes);
-            Reading {
-                checked: Checked::Valid,
-                telegram: t,
-            }
-        }
-    }
+    check(bytes)?;
+    Ok(fields(bytes))
 }
 
 // Builds a telegram into `out`. Refused, in this order: a value that its bits can't hold, or an optional field that is present or missing against the
 // header (10), a reserved address control (14), fields that do not fit (15), an output that is too short (6).
-pub fn build(t: Telegram, out: &mut [u8]) -> Built
+pub fn build(t: Telegram, out: &mut [u8]) -> Result<usize, Refusal>
     ensures { result_of result out.new ≡ build_of t out.old }
 {
-    let admission = admission(t);
-    match admission {
-        Checked::Refused(why) => Built::Refused(why),
-        Checked::Valid => emit(t, out),
-    }
+    admission(t)?;
+    emit(t, out)
 }
 
 // Writes a telegram that can be built, if there is room.
-fn emit(t: Telegram, out: &mut [u8]) -> Built
+fn emit(t: Telegram, out: &mut [u8]) -> Result<usize, Refusal>
     requires { Buildable t }
     ensures { result_of result out.new ≡ build_of t out.old }
 {
     let z = sizes_for(t);
     let end = 1 + overhead(z) + t.len;
     if out.len() < end {
-        return Built::Refused(Refusal::ShortOutput);
+        return Err(Refusal::ShortOutput);
     }
     put_row(t, z, out);
-    Built::Done(end)
+    Ok(end)
 }
 
 // Writes the length byte, the fields by their sizes, one after the other, and the CRC if there is one.
@@ -94,6 +71,7 @@ fn put_row(t: Telegram, z: Sizes, out: &mut [u8])
     let ids = 1 + z.header + z.extension + z.subtype;
     let data = ids + z.originator + z.destination;
     let end = data + t.len + z.optional;
+    // Kept (conversion): proved to fit; `try_from(..).unwrap()` is no plainer.
     put_head(&mut out[0..ids], t, z, size as u8);
     put_ids(&mut out[ids..data], t, z);
     put_data(&mut out[data..end], t, z);
@@ -115,7 +93,7 @@ fn put_head(out: &mut [u8], t: Telegram, z: Sizes, size: u8)
     out[0] = size;
     block_layout::put_number(&mut out[1..extension], header_byte(t.header));
     block_layout::put_number(&mut out[extension..subtype], extension_byte(t.extension));
-    block_layout::put_number(&mut out[subtype..end], byte_number(t.subtype.value));
+    block_layout::put_number(&mut out[subtype..end], u64::from(t.subtype.unwrap_or(0)));
 }
 
 fn put_ids(out: &mut [u8], t: Telegram, z: Sizes)
@@ -125,7 +103,10 @@ fn put_ids(out: &mut [u8], t: Telegram, z: Sizes)
     let destination = z.originator;
     let end = destination + z.destination;
     block_layout::put_number(&mut out[0..destination], t.originator);
-    block_layout::put_number(&mut out[destination..end], id_number(t.destination.id));
+    block_layout::put_number(
+        &mut out[destination..end],
+        u64::from(t.destination.unwrap_or(0)),
+    );
 }
 
 fn put_data(out: &mut [u8], t: Telegram, z: Sizes)
@@ -134,43 +115,29 @@ fn put_data(out: &mut [u8], t: Telegram, z: Sizes)
 {
     let optional = t.len;
     let end = optional + z.optional;
-    let payload = t.payload;
-    let extra = t.optional;
-    block_layout::put_bytes(&mut out[0..optional], &payload[0..optional]);
-    block_layout::put_bytes(&mut out[optional..end], &extra[0..end - optional]);
-}
-
-fn byte_number(n: u8) -> u64
-    ensures { result ≡ n }
-{
-    n as u64
-}
-
-fn id_number(n: u32) -> u64
-    ensures { result ≡ n }
-{
-    n as u64
+    block_layout::put_bytes(&mut out[0..optional], &t.payload[0..optional]);
+    block_layout::put_bytes(&mut out[optional..end], &t.optional[0..z.optional]);
 }
 
 // Whether a telegram can be built in any output (10, 14, 15).
-fn admission(t: Telegram) -> Checked
-    ensures { checked_number result ≡ admission_of t }
+fn admission(t: Telegram) -> Result<(), Refusal>
+    ensures { outcome_number result ≡ admission_of t }
 {
     if is_unholdable(t) {
-        return Checked::Refused(Refusal::Argument);
+        return Err(Refusal::Argument);
     }
     if is_against_header(t) {
-        return Checked::Refused(Refusal::Argument);
+        return Err(Refusal::Argument);
     }
     let short = t.short != 0;
     let reserved = !short & (RESERVED <= t.header.control);
     if reserved {
-        return Checked::Refused(Refusal::ReservedAddress);
+        return Err(Refusal::ReservedAddress);
     }
     if is_misfitting(t) {
-        return Checked::Refused(Refusal::Misfit);
+        return Err(Refusal::Misfit);
     }
-    Checked::Valid
+    Ok(())
 }
 
 // Whether a value is too large for its bits.
@@ -183,8 +150,14 @@ fn is_unholdable(t: Telegram) -> bool
         return over | (6 < t.short);
     }
     let h = t.header;
-    let e = t.extension;
-    over | (((7 < h.control) | (15 < h.kind)) | (e.present & ((15 < e.hops) | (15 < e.announced))))
+    over | ((7 < h.control) | (15 < h.kind) | is_extension_over(t.extension))
+}
+
+// Whether a value of an extended header is too large for its bits.
+fn is_extension_over(e: Option<Extension>) -> bool
+    ensures { result ≡ is_extension_over e }
+{
+    matches!(e, Some(e) if 15 < e.hops || 15 < e.announced)
 }
 
 // Whether an optional field is present or missing against the header.
@@ -193,10 +166,10 @@ fn is_against_header(t: Telegram) -> bool
 {
     let short = t.short != 0;
     let h = t.header;
-    let extension = differ(t.extension.present, !short & h.extended);
-    let subtype = differ(t.subtype.present, !short & (h.kind == EXTENDED_TYPE));
-    let destination = differ(t.destination.present, !short & (h.control == ADDRESSED));
-    (extension | subtype) | destination
+    let extension = t.extension.is_some() != (!short & h.extended);
+    let subtype = t.subtype.is_some() != (!short & (h.kind == EXTENDED_TYPE));
+    let destination = t.destination.is_some() != (!short & (h.control == ADDRESSED));
+    extension | subtype | destination
 }
 
 // Whether the fields do not fit the length.
@@ -209,40 +182,40 @@ fn is_misfitting(t: Telegram) -> bool
     }
     let size = overhead(sizes_for(t)) + t.len;
     if t.short != 0 {
-        return size != base_numbers::usize_of_byte(t.short);
+        return size != usize::from(t.short);
     }
     (size < MIN_LONG) | (MAX_LONG < size)
 }
 
 // The tests of reading, in their order.
-fn check(s: &[u8]) -> Checked
-    ensures { checked_number result ≡ check_of s.now }
+fn check(s: &[u8]) -> Result<(), Refusal>
+    ensures { outcome_number result ≡ check_of s.now }
 {
     let n = s.len();
     if n == 0 {
-        return Checked::Refused(Refusal::Length);
+        return Err(Refusal::Length);
     }
-    let l = base_numbers::usize_of_byte(s[0]);
+    let l = usize::from(s[0]);
     if l == 0 {
-        return Checked::Refused(Refusal::Length);
+        return Err(Refusal::Length);
     }
     if n != 1 + l {
-        return Checked::Refused(Refusal::Length);
+        return Err(Refusal::Length);
     }
     if l <= MAX_SHORT {
-        return Checked::Valid;
+        return Ok(());
     }
     if s[l] != base_crc8::crc8(&s[1..l]) {
-        return Checked::Refused(Refusal::Crc);
+        return Err(Refusal::Crc);
     }
     let h = header_of(s[1]);
     if RESERVED <= h.control {
-        return Checked::Refused(Refusal::ReservedAddress);
+        return Err(Refusal::ReservedAddress);
     }
     if l < overhead(long_sizes(h, s[2] % 16)) {
-        return Checked::Refused(Refusal::Misfit);
+        return Err(Refusal::Misfit);
     }
-    Checked::Valid
+    Ok(())
 }
 
 // The fields of a list in which they fit.
@@ -250,7 +223,7 @@ fn fields(s: &[u8]) -> Telegram
     requires { Fitting s.now }
     ensures { result ≡ fields_of s.now }
 {
-    let l = base_numbers::usize_of_byte(s[0]);
+    let l = usize::from(s[0]);
     let z = sizes_in(s);
     let n = l - overhead(z);
     row(s, z, n, short_of(s[0]))
@@ -272,60 +245,21 @@ fn row(s: &[u8], z: Sizes, n: usize, short: u8) -> Telegram
     let e = small(&s[extension..subtype]);
     let value = small(&s[subtype..originator]);
     let from = block_layout::read_number(&s[originator..destination]);
-    let id = middle(&s[destination..data]);
-    let payload = payload_of(&s[data..optional]);
-    let extra = optional_of(&s[optional..end]);
+    // Kept (conversion): proved to fit; `try_from(..).unwrap()` is no plainer.
+    let id = block_layout::read_number(&s[destination..data]) as u32;
     Telegram {
-        short: short,
+        short,
         header: h,
-        extension: Extension {
-            present: h.extended,
+        extension: h.extended.then_some(Extension {
             hops: e / 16,
             announced: e % 16,
-        },
-        subtype: Subtype {
-            present: h.kind == EXTENDED_TYPE,
-            value: value,
-        },
+        }),
+        subtype: (h.kind == EXTENDED_TYPE).then_some(value),
         originator: from,
-        destination: Destination {
-            present: h.control == ADDRESSED,
-            id: id,
-        },
-        payload: payload,
+        destination: (h.control == ADDRESSED).then_some(id),
+        payload: base_bytes::padded(&s[data..optional]),
         len: n,
-        optional: extra,
-    }
-}
-
-// A telegram that is all zero.
-fn none() -> Telegram
-    ensures { result ≡ no_telegram }
-{
-    Telegram {
-        short: 0,
-        header: Header {
-            control: 0,
-            extended: false,
-            kind: 0,
-        },
-        extension: Extension {
-            present: false,
-            hops: 0,
-            announced: 0,
-        },
-        subtype: Subtype {
-            present: false,
-            value: 0,
-        },
-        originator: 0,
-        destination: Destination {
-            present: false,
-            id: 0,
-        },
-        payload: [0u8; MAX_DATA],
-        len: 0,
-        optional: [0u8; MAX_OPTIONAL],
+        optional: base_bytes::padded(&s[optional..end]),
     }
 }
 
@@ -334,25 +268,16 @@ fn none() -> Telegram
 fn header_byte(h: Header) -> u64
     ensures { result ≡ header_byte h }
 {
-    if h.extended {
-        return h.control as u64 * 32 + 16 + h.kind as u64;
-    }
-    h.control as u64 * 32 + h.kind as u64
+    u64::from(h.control) * 32 + if h.extended { 16 } else { 0 } + u64::from(h.kind)
 }
 
-fn extension_byte(e: Extension) -> u64
+fn extension_byte(e: Option<Extension>) -> u64
     ensures { result ≡ extension_byte e }
 {
-    e.hops as u64 * 16 + e.announced as u64
-}
-
-fn differ(a: bool, b: bool) -> bool
-    ensures { result ≡ differing a b }
-{
-    if a {
-        return !b;
+    match e {
+        Some(e) => u64::from(e.hops) * 16 + u64::from(e.announced),
+        None => 0,
     }
-    b
 }
 
 // The first number that a number of bytes can't hold, by that number.
@@ -380,9 +305,18 @@ fn sizes_for(t: Telegram) -> Sizes
     ensures { result ≡ sizes_for t }
 {
     if t.short != 0 {
-        return short_sizes(base_numbers::usize_of_byte(t.short));
+        return short_sizes(usize::from(t.short));
     }
-    long_sizes(t.header, t.extension.announced)
+    long_sizes(t.header, announced_of(t.extension))
+}
+
+fn announced_of(e: Option<Extension>) -> u8
+    ensures { result ≡ announced_of e }
+{
+    match e {
+        Some(e) => e.announced,
+        None => 0,
+    }
 }
 
 fn header_of(b: u8) -> Header
@@ -400,7 +334,7 @@ fn sizes_in(s: &[u8]) -> Sizes
     requires { Fitting s.now }
     ensures { result ≡ sizes_in s.now }
 {
-    let l = base_numbers::usize_of_byte(s[0]);
+    let l = usize::from(s[0]);
     if l <= MAX_SHORT {
         return short_sizes(l);
     }
@@ -432,7 +366,7 @@ fn long_sizes(h: Header, announced: u8) -> Sizes
         subtype: if_set(h.kind == EXTENDED_TYPE, 1),
         originator: originator_size(h.control),
         destination: if_set(h.control == ADDRESSED, 4),
-        optional: if_set(h.extended, base_numbers::usize_of_byte(announced)),
+        optional: if_set(h.extended, usize::from(announced)),
         crc: 1,
     }
 }
@@ -445,19 +379,13 @@ const ORIGINATORS: [usize; 4] = [3, 4, 4, 6];
 fn short_originator(length: usize) -> usize
     ensures { result ≡ get_or short_originators length 0 }
 {
-    if length <= MAX_SHORT {
-        return SHORT_ORIGINATORS[length];
-    }
-    0
+    SHORT_ORIGINATORS.get(length).copied().unwrap_or(0)
 }
 
 fn originator_size(control: u8) -> usize
     ensures { result ≡ get_or originators control 6 }
 {
-    if control < RESERVED {
-        return ORIGINATORS[control as usize];
-    }
-    6
+    ORIGINATORS.get(usize::from(control)).copied().unwrap_or(6)
 }
 
 // The length of Data_PL without its data.
@@ -471,19 +399,13 @@ fn overhead(z: Sizes) -> usize
 fn if_set(flag: bool, n: usize) -> usize
     ensures { result ≡ cond flag n 0 }
 {
-    if flag {
-        return n;
-    }
-    0
+    if flag { n } else { 0 }
 }
 
 fn short_of(length: u8) -> u8
     ensures { result ≡ cond (leb length max_short) length 0 }
 {
-    if length <= 6 {
-        return length;
-    }
-    0
+    if length <= 6 { length } else { 0 }
 }
 
 // ---- parts as values
@@ -493,40 +415,5 @@ fn small(part: &[u8]) -> u8
     requires { length part.now ≤ 1 }
     ensures { result ≡ unbe part.now }
 {
-    if part.len() == 0 {
-        return 0;
-    }
-    part[0]
-}
-
-// The number in at most four bytes.
-fn middle(part: &[u8]) -> u32
-    requires { length part.now ≤ 4 }
-    ensures { result ≡ unbe part.now }
-{
-    let mut n: u32 = 0;
-    for i in 0..part.len() {
-        n = n * 256 + part[i] as u32;
-    }
-    n
-}
-
-// Data, filled with zeros.
-fn payload_of(part: &[u8]) -> [u8; MAX_DATA]
-    requires { length part.now ≤ 250 }
-    ensures { result ≡ padded 250 part.now }
-{
-    let mut payload = [0u8; MAX_DATA];
-    base_bytes::copy(part, &mut payload);
-    payload
-}
-
-// Optional data, filled with zeros.
-fn optional_of(part: &[u8]) -> [u8; MAX_OPTIONAL]
-    requires { length part.now ≤ 15 }
-    ensures { result ≡ padded 15 part.now }
-{
-    let mut optional = [0u8; MAX_OPTIONAL];
-    base_bytes::copy(part, &mut optional);
-    optional
+    part.first().copied().unwrap_or(0)
 }

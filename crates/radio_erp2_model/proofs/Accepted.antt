@@ -1,8 +1,8 @@
 -- What is read can be built: no test of building refuses it.
 use mathlib.Core.Path.{◌≡◌, refl, ap}
-use mathlib.Core.Bool.{Bool, true, false, cond, not, ◌&&◌, ◌||◌, and-false}
+use mathlib.Core.Bool.{Bool, true, false, cond, not, ◌&&◌, ◌||◌}
 use mathlib.Core.List.{List}
-use Prim.Native.Nat.{ℕ, ◌+◌, ◌-◌, ◌/◌, ◌%◌, ◌^◌, ◌≤◌, ◌<◌}
+use Prim.Native.Nat.{ℕ, ◌+◌, ◌/◌, ◌%◌, ◌^◌, ◌≤◌, ◌<◌}
 use native.Mathlib.Omega.{arith}
 use lib.Dec.{leb, ltb}
 use lib.ListN.{length, get_or}
@@ -11,29 +11,24 @@ use Rattle.base_buffers.specs.Buffer.{part}
 use Rattle.block_layout.specs.BigEndian.{unbe, unbe_from, Bytes}
 use Rattle.block_layout.proofs.BigEndian.{field_lt, field_one}
 use Rattle.radio_telegram.specs.Output.{written}
-use Rattle.radio_erp2_model.specs.Header.{is_reserved}
-use Rattle.radio_erp2_model.specs.Sizes.{originator_at}
+use Rattle.radio_erp2_model.specs.Header.{header_fields, extension_of, is_reserved, is_type_extended, is_addressed}
+use Rattle.radio_erp2_model.specs.Sizes.{extension_at, subtype_at, originator_at, destination_at}
 use Rattle.radio_erp2_model.specs.Reading.{length_byte, has_short_length, header_in, sizes_in, fields_of}
-use Rattle.radio_erp2_model.specs.Building.{is_short_form, sizes_for, is_unholdable, differ, is_against_header, is_misfitting, build_of}
+use Rattle.radio_erp2_model.specs.Building.{is_short_form, sizes_for, is_extension_over, is_unholdable, is_against_header, is_misfitting, build_of}
+use Rattle.radio_erp2_model.proofs.Optionals.{agrees_there, extension_agrees, extension_holds}
 use Rattle.radio_erp2_model.proofs.Sound.{Sound}
 use Rattle.radio_erp2_model.proofs.ReadBack.{form_short, form_long, sizes_read, length_read, bytes_read}
 
 or-false : {a b : Bool} → a ≡ false → b ≡ false → (a || b) ≡ false
 or-false p q = rw (p, q) refl
 
-same_differ : (x : Bool) → differ x x ≡ false
-same_differ true = refl
-same_differ false = refl
-
 -- two bytes, the first with an address control that is not reserved, hold what is read from them
 bits_hold : (b e : ℕ) (x : Bool) → b / 32 < 4 → e < 256
-    → (ltb 7 (b / 32) || ltb 15 (b % 16) || (x && (ltb 15 (e / 16) || ltb 15 (e % 16)))) ≡ false
+    → (ltb 7 (b / 32) || ltb 15 (b % 16) || is_extension_over (extension_of x e)) ≡ false
 bits_hold b e x h k =
     let p : ltb 7 (b / 32) ≡ false = le-ltb 7 (b / 32) (omega arith) in
     let q : ltb 15 (b % 16) ≡ false = le-ltb 15 (b % 16) (omega arith) in
-    let r : ltb 15 (e / 16) ≡ false = le-ltb 15 (e / 16) (omega arith) in
-    let t : ltb 15 (e % 16) ≡ false = le-ltb 15 (e % 16) (omega arith) in
-    rw (p, q, r, t) (and-false x)
+    rw (p, q, extension_holds x e k)
 
 module _ (s : List ℕ) (v : Sound s) (b : Bytes s) where
   originator-holds : leb (256 ^ (sizes_for (fields_of s)).originator) (fields_of s).originator ≡ false
@@ -68,9 +63,14 @@ module _ (s : List ℕ) (v : Sound s) (b : Bytes s) where
   long-agrees : has_short_length s ≡ false → is_against_header (fields_of s) ≡ false
   unfolding is_against_header fields_of
   long-agrees h =
+      let z = sizes_in s in
+      let x = header_fields (unbe (part 1 z.header s)) in
+      let e = unbe (part (extension_at z) z.extension s) in
       rw (form_long s v h)
-      (or-false (or-false (same_differ (fields_of s).extension.present) (same_differ (fields_of s).subtype.present))
-      (same_differ (fields_of s).destination.present))
+      (or-false
+      (or-false (extension_agrees x.extended e)
+      (agrees_there (is_type_extended x) (unbe (part (subtype_at z) z.subtype s))))
+      (agrees_there (is_addressed x) (unbe (part (destination_at z) z.destination s))))
 
   named : has_short_length s ≡ true → (fields_of s).short ≡ length_byte s
   unfolding fields_of

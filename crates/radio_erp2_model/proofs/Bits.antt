@@ -1,7 +1,7 @@
 -- The bits of a header and of an extended header, as bytes and back.
 use mathlib.Core.Path.{◌≡◌, refl}
 use mathlib.Core.Bool.{Bool, true, false, cond}
-use Prim.Native.Nat.{ℕ, ◌+◌, ◌-◌, ◌*◌, ◌/◌, ◌%◌, ◌<◌}
+use Prim.Native.Nat.{ℕ, ◌+◌, ◌*◌, ◌/◌, ◌%◌, ◌<◌}
 use native.Mathlib.Omega.{arith}
 use lib.Dec.{eqb}
 use borrow.Author.Tests.{eqb-true, eqb-false, eq-eqb, ne_eqb}
@@ -14,9 +14,6 @@ header-back b = go (eqb (b / 16 % 2) 1) refl
     go : (x : Bool) → eqb (b / 16 % 2) 1 ≡ x → b / 32 * 32 + cond x 16 0 + b % 16 ≡ b
     go true e = omega (arith, eqb-true (b / 16 % 2) 1 e)
     go false e = omega (arith, eqb-false (b / 16 % 2) 1 e)
-
-pub extension-back : (e : ℕ) → e / 16 * 16 + e % 16 ≡ e
-extension-back e = omega arith
 
 three_bits : (c k : ℕ) (x : Bool) → c < 8 → k < 16
     → header_fields (c * 32 + cond x 16 0 + k) ≡ record { control = c; extended = x; kind = k }

@@ -2,12 +2,13 @@
 use mathlib.Core.Path.{◌≡◌, refl, sym, ap, ◌∙◌}
 use mathlib.Core.Bool.{Bool, true, false, cond}
 use mathlib.Core.List.{List, [], ◌∷◌, ◌++◌}
-use Prim.Native.Nat.{ℕ, ◌+◌, ◌-◌, ◌/◌, ◌%◌, ◌≤◌}
+use Prim.Native.Nat.{ℕ, ◌+◌, ◌-◌, ◌%◌, ◌≤◌}
 use native.Mathlib.Omega.{arith}
 use lib.Dec.{ltb}
 use lib.ListN.{length, get_or, length-append}
 use lib.Seq.{take_at, get_or_at}
 use borrow.Author.Tests.{eq-eqb, ne_eqb, le-leb, lt-leb, le-ltb}
+use Rattle.std.specs.Prelude.{Option, Some, None, is_some, unwrap_or}
 use Rattle.base_lists.specs.Lists.{padded}
 use Rattle.base_refusal.specs.Number.{number_of}
 use Rattle.base_refusal.specs.declared.Refusal.TheVariants.{Misfit}
@@ -18,16 +19,15 @@ use Rattle.block_layout.proofs.BigEndian.{be-length, unbe-be, field_one}
 use Rattle.radio_erp2_model.specs.declared.Header.{Header}
 use Rattle.radio_erp2_model.specs.declared.Sizes.{Sizes}
 use Rattle.radio_erp2_model.specs.declared.Extension.{Extension}
-use Rattle.radio_erp2_model.specs.declared.Subtype.{Subtype}
-use Rattle.radio_erp2_model.specs.declared.Destination.{Destination}
 use Rattle.radio_erp2_model.specs.declared.Telegram.{Telegram}
-use Rattle.radio_erp2_model.specs.Header.{header_fields, header_byte, is_reserved, is_type_extended, is_addressed, extension_of, extension_byte}
+use Rattle.radio_erp2_model.specs.Header.{header_fields, header_byte, is_reserved, is_type_extended, is_addressed, extension_of, extension_byte, announced_of}
 use Rattle.radio_erp2_model.specs.Sizes.{short_sizes, long_sizes, overhead, extension_at}
-use Rattle.radio_erp2_model.specs.Reading.{max_data, max_optional, length_byte, has_short_length, header_in, sizes_in, fields_of, check_of, no_header, no_extension, no_subtype, no_destination}
+use Rattle.radio_erp2_model.specs.Reading.{max_data, max_optional, length_byte, has_short_length, header_in, sizes_in, fields_of, check_of, no_header}
 use Rattle.radio_erp2_model.specs.Building.{is_short_form, sizes_for, telegram_size, data_of, optional_of, body_of, seal_of, erp2_bytes}
 use Rattle.radio_erp2_model.specs.Bounds.{Buildable}
 use Rattle.radio_erp2_model.specs.Claims.{Shaped, normal_of}
 use Rattle.radio_erp2_model.proofs.Bits.{header_forth, header_lt}
+use Rattle.radio_erp2_model.proofs.Optionals.{is_absent, some_again, extension_lt, announced-back, extension-forth}
 use Rattle.radio_erp2_model.proofs.Facts.{Short, Long, Lengths, short_facts, long_facts, short_lengths, long-lengths}
 use Rattle.radio_erp2_model.proofs.Segments.{header_field, extension_field, subtype_field, originator_field, destination_field, part-header, part-extension, part-subtype, part-originator, part-destination, part-payload, part-optional, built_length}
 
@@ -77,9 +77,6 @@ module _ (t : Telegram) (shape : Shaped t) (f : is_short_form t ≡ true) (v : S
   unfolding fields_of
   short-fields =
       let a : unbe (header_field t) ≡ 0 = rw f (none _) in
-      let b : unbe (extension_field t) ≡ 0 = rw f (none _) in
-      let c : unbe (subtype_field t) ≡ 0 = rw f (none _) in
-      let e : unbe (destination_field t) ≡ 0 = rw f (none _) in
       let d : unbe (originator_field t) ≡ t.originator =
       rw f (unbe-be (short_sizes t.short).originator t.originator v.originator) in
       rw (
@@ -94,10 +91,7 @@ module _ (t : Telegram) (shape : Shaped t) (f : is_short_form t ≡ true) (v : S
         part-payload t l,
         part-optional t l,
         a,
-        b,
-        c,
         d,
-        e,
         le-leb (telegram_size t) 6 (omega (arith, v.size, v.most)),
         v.size,
         f,
@@ -126,7 +120,7 @@ module _ (t : Telegram) (shape : Shaped t) (f : is_short_form t ≡ false) (v : 
 
   -- where there is an extended header
   module _ (e : t.header.extended ≡ true) where
-    there : t.extension.present ≡ true
+    there : is_some t.extension ≡ true
     there = v.extension ∙ e
 
     one_extension : (sizes_for t).extension ≡ 1
@@ -134,7 +128,7 @@ module _ (t : Telegram) (shape : Shaped t) (f : is_short_form t ≡ false) (v : 
 
     extension_read : unbe (extension_field t) ≡ extension_byte t.extension
     extension_read =
-        rw one_extension (unbe-be 1 (extension_byte t.extension) (omega (arith, v.hops there, v.announced there)))
+        rw one_extension (unbe-be 1 (extension_byte t.extension) (extension_lt t.extension v.hops v.announced))
 
     second-byte : get_or (erp2_bytes t) 2 0 ≡ extension_byte t.extension
     second-byte =
@@ -145,8 +139,8 @@ module _ (t : Telegram) (shape : Shaped t) (f : is_short_form t ≡ false) (v : 
         ∙ extension_read
 
   optional_is : (x : Bool) → t.header.extended ≡ x
-      → cond x (get_or (erp2_bytes t) 2 0 % 16) 0 ≡ cond x t.extension.announced 0
-  optional_is true e = rw (second-byte e) (omega (arith, v.hops (there e), v.announced (there e)))
+      → cond x (get_or (erp2_bytes t) 2 0 % 16) 0 ≡ cond x (announced_of t.extension) 0
+  optional_is true e = rw (second-byte e) (announced-back t.extension v.announced)
   optional_is false e = refl
 
   announced_sizes : long_sizes (header_in (erp2_bytes t)) (get_or (erp2_bytes t) 2 0 % 16) ≡ sizes_for t
@@ -160,44 +154,44 @@ module _ (t : Telegram) (shape : Shaped t) (f : is_short_form t ≡ false) (v : 
 
   -- each optional field, there or not
   extension_is : (x : Bool) → t.header.extended ≡ x
-      → extension_of t.header.extended (unbe (extension_field t))
-      ≡ cond t.extension.present t.extension no_extension
+      → extension_of t.header.extended (unbe (extension_field t)) ≡ t.extension
   extension_is true e =
-      let p : extension_byte t.extension / 16 ≡ t.extension.hops = omega (arith, v.announced (there e)) in
-      let q : extension_byte t.extension % 16 ≡ t.extension.announced = omega (arith, v.announced (there e)) in
-      let r : extension_of t.header.extended (unbe (extension_field t)) ≡ t.extension
-      = rw (extension_read e, p, q, ← v.extension) in
-      r ∙ sym (ap (λ (b : Bool). cond b t.extension no_extension) (there e))
+      ap (λ (b : Bool). extension_of b (unbe (extension_field t))) e
+      ∙ ap (extension_of true) (extension_read e)
+      ∙ extension-forth t.extension (there e) v.announced
   extension_is false e =
-      let r : unbe (extension_field t) ≡ 0 = rw (f, e) (none _) in
-      rw (r, v.extension, e)
+      ap (λ (b : Bool). extension_of b (unbe (extension_field t))) e
+      ∙ sym (is_absent t.extension (v.extension ∙ e))
+
+  abbrev read_number : Bool → ℕ → Option ℕ
+  read_number present n = cond present (Some n) None
 
   subtype_is : (x : Bool) → is_type_extended t.header ≡ x
-      → record { present = is_type_extended t.header; value = unbe (subtype_field t) }
-      ≡ cond t.subtype.present t.subtype no_subtype
+      → read_number (is_type_extended t.header) (unbe (subtype_field t)) ≡ t.subtype
   subtype_is true e =
-      let q : unbe (subtype_field t) ≡ t.subtype.value = rw (f, e) (unbe-be 1 t.subtype.value shape.value) in
-      let r : record { present = is_type_extended t.header; value = unbe (subtype_field t) } ≡ t.subtype =
-      rw (q, ← v.subtype) in
-      r ∙ sym (ap (λ (b : Bool). cond b t.subtype no_subtype) (v.subtype ∙ e))
+      let q : unbe (subtype_field t) ≡ unwrap_or t.subtype 0 =
+      rw (f, e) (unbe-be 1 (unwrap_or t.subtype 0) shape.value) in
+      ap (λ (b : Bool). read_number b (unbe (subtype_field t))) e
+      ∙ ap (read_number true) q
+      ∙ some_again t.subtype (v.subtype ∙ e)
   subtype_is false e =
-      let r : unbe (subtype_field t) ≡ 0 = rw (f, e) (none _) in
-      rw (r, v.subtype, e)
+      ap (λ (b : Bool). read_number b (unbe (subtype_field t))) e
+      ∙ sym (is_absent t.subtype (v.subtype ∙ e))
 
   destination_is : (x : Bool) → is_addressed t.header ≡ x
-      → record { present = is_addressed t.header; id = unbe (destination_field t) }
-      ≡ cond t.destination.present t.destination no_destination
+      → read_number (is_addressed t.header) (unbe (destination_field t)) ≡ t.destination
   destination_is true e =
-      let q : unbe (destination_field t) ≡ t.destination.id = rw (f, e) (unbe-be 4 t.destination.id shape.id) in
-      let r : record { present = is_addressed t.header; id = unbe (destination_field t) } ≡ t.destination =
-      rw (q, ← v.destination) in
-      r ∙ sym (ap (λ (b : Bool). cond b t.destination no_destination) (v.destination ∙ e))
+      let q : unbe (destination_field t) ≡ unwrap_or t.destination 0 =
+      rw (f, e) (unbe-be 4 (unwrap_or t.destination 0) shape.id) in
+      ap (λ (b : Bool). read_number b (unbe (destination_field t))) e
+      ∙ ap (read_number true) q
+      ∙ some_again t.destination (v.destination ∙ e)
   destination_is false e =
-      let r : unbe (destination_field t) ≡ 0 = rw (f, e) (none _) in
-      rw (r, v.destination, e)
+      ap (λ (b : Bool). read_number b (unbe (destination_field t))) e
+      ∙ sym (is_absent t.destination (v.destination ∙ e))
 
   -- the telegram with these fields
-  abbrev made : ℕ → Header → Extension → Subtype → Destination → Telegram
+  abbrev made : ℕ → Header → Option Extension → Option ℕ → Option ℕ → Telegram
   made n h e u d = record {
     short = n;
     header = h;
@@ -210,26 +204,17 @@ module _ (t : Telegram) (shape : Shaped t) (f : is_short_form t ≡ false) (v : 
     optional = padded max_optional (optional_of t);
   }
 
-  abbrev kept_extension : Extension
-  kept_extension = cond t.extension.present t.extension no_extension
-
-  abbrev kept_subtype : Subtype
-  kept_subtype = cond t.subtype.present t.subtype no_subtype
-
-  abbrev kept_destination : Destination
-  kept_destination = cond t.destination.present t.destination no_destination
-
-  long_normal : normal_of t ≡ made 0 t.header kept_extension kept_subtype kept_destination
+  long_normal : normal_of t ≡ made 0 t.header t.extension t.subtype t.destination
   long_normal =
-      ap (λ (n : ℕ). made n (cond (is_short_form t) no_header t.header) kept_extension kept_subtype kept_destination)
+      ap (λ (n : ℕ). made n (cond (is_short_form t) no_header t.header) t.extension t.subtype t.destination)
       v.none
-      ∙ ap (λ (b : Bool). made 0 (cond b no_header t.header) kept_extension kept_subtype kept_destination) f
+      ∙ ap (λ (b : Bool). made 0 (cond b no_header t.header) t.extension t.subtype t.destination) f
 
-  abbrev read_subtype : Header → Subtype
-  read_subtype h = record { present = is_type_extended h; value = unbe (subtype_field t) }
+  abbrev read_subtype : Header → Option ℕ
+  read_subtype h = read_number (is_type_extended h) (unbe (subtype_field t))
 
-  abbrev read_destination : Header → Destination
-  read_destination h = record { present = is_addressed h; id = unbe (destination_field t) }
+  abbrev read_destination : Header → Option ℕ
+  read_destination h = read_number (is_addressed h) (unbe (destination_field t))
 
   -- the same, with what a header says of its optional fields
   abbrev read_as : Header → Telegram
@@ -261,11 +246,11 @@ module _ (t : Telegram) (shape : Shaped t) (f : is_short_form t ≡ false) (v : 
         lt-leb (telegram_size t) 6 (omega (arith, v.low)),
       )
       (ap read_as header_built
-      ∙ ap (λ (e : Extension). made 0 t.header e (read_subtype t.header) (read_destination t.header))
+      ∙ ap (λ (e : Option Extension). made 0 t.header e (read_subtype t.header) (read_destination t.header))
       (extension_is t.header.extended refl)
-      ∙ ap (λ (u : Subtype). made 0 t.header kept_extension u (read_destination t.header))
+      ∙ ap (λ (u : Option ℕ). made 0 t.header t.extension u (read_destination t.header))
       (subtype_is (is_type_extended t.header) refl)
-      ∙ ap (λ (w : Destination). made 0 t.header kept_extension kept_subtype w)
+      ∙ ap (λ (w : Option ℕ). made 0 t.header t.extension t.subtype w)
       (destination_is (is_addressed t.header) refl)
       ∙ sym long_normal)
 

@@ -1,5 +1,6 @@
 pub mod Lookups
 pub mod Bits
+pub mod Optionals
 pub mod Checks
 pub mod Sound
 pub mod Placing

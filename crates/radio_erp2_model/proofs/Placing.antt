@@ -23,9 +23,6 @@ long-small h announced b =
     let p = flag_le h.extended announced in
     omega arith
 
-pub low_bits : (n : ℕ) → n % 16 < 256
-low_bits n = omega arith
-
 module _ (s : List ℕ) (v : Fitting s) (b : length_byte s < 256) where
   short-placed : has_short_length s ≡ true → Placed s (sizes_in s) (length_byte s - overhead (sizes_in s))
   short-placed h =

@@ -10,15 +10,18 @@ use borrow.Author.Tests.{leb-false, ne_eqb}
 use Rattle.base_lists.specs.Lists.{padded}
 use Rattle.base_crc8.specs.Crc8.{crc_of}
 use Rattle.base_buffers.specs.Buffer.{part}
-use Rattle.block_layout.specs.BigEndian.{be, unbe, Bytes}
+use Rattle.block_layout.specs.BigEndian.{be, unbe, unbe_from, Bytes}
 use Rattle.base_buffers.proofs.Segments.{part_length, part_join}
 use Rattle.block_layout.proofs.BigEndian.{field_back, field_one}
 use Rattle.radio_erp2_model.specs.declared.Sizes.{Sizes}
+use Rattle.radio_erp2_model.specs.declared.Header.{Header}
+use Rattle.radio_erp2_model.specs.Header.{header_fields, extension_of, announced_of, is_type_extended, is_addressed}
 use Rattle.radio_erp2_model.specs.Sizes.{long_sizes, overhead, extension_at, subtype_at, originator_at, destination_at, payload_at}
 use Rattle.radio_erp2_model.specs.Reading.{max_data, max_optional, length_byte, has_short_length, header_in, sizes_in, fields_of}
 use Rattle.radio_erp2_model.specs.Building.{is_short_form, sizes_for, telegram_size, body_of, erp2_bytes}
 use Rattle.radio_erp2_model.proofs.Lookups.{short-fits}
-use Rattle.radio_erp2_model.proofs.Bits.{header-back, extension-back}
+use Rattle.radio_erp2_model.proofs.Bits.{header-back}
+use Rattle.radio_erp2_model.proofs.Optionals.{bytes_there, extension_bytes_there}
 use Rattle.radio_erp2_model.proofs.Sound.{Sound}
 
 part_one : (a : ℕ) (s : List ℕ) → a < length s → get_or s a 0 ∷ [] ≡ part a 1 s
@@ -61,7 +64,7 @@ module _ (s : List ℕ) (v : Sound s) where
   sizes_short h = rw (h, ne_eqb (length_byte s) 0 (λ e. omega (arith, v.some))) refl
 
   second : has_short_length s ≡ false → (x : Bool) → (header_in s).extended ≡ x
-      → cond x (unbe (part 2 (cond x 1 0) s) % 16) 0 ≡ cond x (get_or s 2 0 % 16) 0
+      → cond x (announced_of (extension_of x (unbe (part 2 (cond x 1 0) s)))) 0 ≡ cond x (get_or s 2 0 % 16) 0
   second h true e = rw (field_one 2 s (omega (arith, v.long, leb-false (length_byte s) 6 h))) refl
   second h false e = refl
 
@@ -104,6 +107,25 @@ module _ (s : List ℕ) (v : Sound s) where
   unfolding fields_of
   form_long h = rw h refl
 
+  -- the header that is read says which optional fields have bytes
+  abbrev read_header : Header
+  read_header = header_fields (unbe (part 1 (sizes_in s).header s))
+
+  record Sized : Type 0 where
+    extension : (sizes_in s).extension ≡ cond read_header.extended 1 0
+    subtype : (sizes_in s).subtype ≡ cond (is_type_extended read_header) 1 0
+    destination : (sizes_in s).destination ≡ cond (is_addressed read_header) 4 0
+
+  by_form_sized : (x : Bool) → has_short_length s ≡ x → Sized
+  unfolding unbe unbe_from
+  by_form_sized true h = record { extension = rw h refl; subtype = rw h refl; destination = rw h refl }
+  by_form_sized false h =
+      let one = field_one 1 s (omega (arith, v.long, leb-false (length_byte s) 6 h)) in
+      record { extension = rw (h, one) refl; subtype = rw (h, one) refl; destination = rw (h, one) refl }
+
+  sized : Sized
+  sized = by_form_sized (has_short_length s) refl
+
   -- a payload or optional data, without its zeros again
   unpadded : (m a n : ℕ) → a + n ≤ length s → take n (padded m (part a n s)) ≡ part a n s
   unpadded m a n h = take_at (part a n s) _ n (part_length a n s h)
@@ -122,7 +144,9 @@ module _ (s : List ℕ) (v : Sound s) where
         rw (
           sizes_read,
           header-back,
-          extension-back,
+          extension_bytes_there _ (sizes_in s).extension _ sized.extension,
+          bytes_there _ (sizes_in s).subtype 1 _ sized.subtype,
+          bytes_there _ (sizes_in s).destination 4 _ sized.destination,
           unpadded max_data (payload_at (sizes_in s)) rest (omega (arith, v.fits, v.long)),
           unpadded max_optional (payload_at (sizes_in s) + rest) (sizes_in s).optional (omega (arith, v.fits, v.long)),
         )

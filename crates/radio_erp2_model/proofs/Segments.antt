@@ -5,6 +5,7 @@ use mathlib.Core.List.{List, [], ◌∷◌, ◌++◌, append_assoc, append-nil, 
 use Prim.Native.Nat.{ℕ, ◌+◌}
 use native.Mathlib.Omega.{arith}
 use lib.ListN.{length, get_or, length-append}
+use Rattle.std.specs.Prelude.{unwrap_or}
 use Rattle.base_buffers.specs.Buffer.{part}
 use Rattle.block_layout.specs.BigEndian.{be}
 use Rattle.base_buffers.proofs.Segments.{start, part-nth}
@@ -32,13 +33,13 @@ module _ (t : Telegram) where
   extension_field = be z.extension (extension_byte t.extension)
 
   abbrev pub subtype_field : List ℕ
-  subtype_field = be z.subtype t.subtype.value
+  subtype_field = be z.subtype (unwrap_or t.subtype 0)
 
   abbrev pub originator_field : List ℕ
   originator_field = be z.originator t.originator
 
   abbrev pub destination_field : List ℕ
-  destination_field = be z.destination t.destination.id
+  destination_field = be z.destination (unwrap_or t.destination 0)
 
   abbrev segments : List (List ℕ)
   segments =
@@ -64,13 +65,13 @@ module _ (t : Telegram) where
   extension-length = be-length z.extension (extension_byte t.extension)
 
   subtype-length : length subtype_field ≡ z.subtype
-  subtype-length = be-length z.subtype t.subtype.value
+  subtype-length = be-length z.subtype (unwrap_or t.subtype 0)
 
   originator-length : length originator_field ≡ z.originator
   originator-length = be-length z.originator t.originator
 
   destination-length : length destination_field ≡ z.destination
-  destination-length = be-length z.destination t.destination.id
+  destination-length = be-length z.destination (unwrap_or t.destination 0)
 
   -- ---- where each stands
 

@@ -20,6 +20,7 @@ use Rattle.radio_erp2_model.specs.Bounds.{Placed}
 use Rattle.radio_erp2_model.specs.Claims.{BuildRead, Shaped, normal_of, ReadBuilt, NormalRead, Figures}
 use Rattle.radio_erp2_model.proofs.Sound.{Sound, check_facts}
 use Rattle.radio_erp2_model.proofs.Placing.{placed}
+use Rattle.radio_erp2_model.proofs.Optionals.{number_below}
 use Rattle.radio_erp2_model.proofs.Accepted.{build_fields}
 use Rattle.radio_erp2_model.proofs.Facts.{build_facts}
 use Rattle.radio_erp2_model.proofs.BuildBack.{built_reads}
@@ -69,8 +70,11 @@ module _ (s : List ℕ) (v : Sound s) (b : Bytes s) where
         optional =
             padded-length max_optional (part (payload_at z + rest) z.optional s)
             (omega (arith, optional, place.optional));
-        value = narrow _ z.subtype 1 place.subtype (field_lt (subtype_at z) z.subtype s b);
-        id = narrow _ z.destination 4 place.destination (field_lt (destination_at z) z.destination s b);
+        value =
+            number_below _ _ _ (narrow _ z.subtype 1 place.subtype (field_lt (subtype_at z) z.subtype s b));
+        id =
+            number_below _ _ _
+            (narrow _ z.destination 4 place.destination (field_lt (destination_at z) z.destination s b));
       }
 
 -- build what is read, and read it back

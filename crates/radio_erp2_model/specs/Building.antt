@@ -1,13 +1,14 @@
 -- Building the list of the length byte and Data_PL (document 02, A4; source document 004, 4.4 to 4.6).
-use Rattle.std.specs.Prelude.{ℕ, ◌+◌, ◌^◌, Bool, cond, not, ◌&&◌, ◌||◌, List, [], ◌∷◌, ◌++◌, leb, ltb, eqb, length, take}
+use Rattle.std.specs.Prelude.{ℕ, ◌+◌, ◌^◌, Bool, false, cond, not, ◌&&◌, ◌||◌, List, [], ◌∷◌, ◌++◌, leb, ltb, eqb, length, take, Option, Some, None, is_some, unwrap_or}
 use Rattle.base_refusal.specs.Number.{number_of}
 use Rattle.base_refusal.specs.declared.Refusal.TheVariants.{ShortOutput, Argument, ReservedAddress, Misfit}
 use Rattle.base_crc8.specs.Crc8.{crc_of}
 use Rattle.block_layout.specs.BigEndian.{be}
 use Rattle.radio_telegram.specs.Output.{Result, refused, written}
+use Rattle.radio_erp2_model.specs.declared.Extension.{Extension}
 use Rattle.radio_erp2_model.specs.declared.Sizes.{Sizes}
 use Rattle.radio_erp2_model.specs.declared.Telegram.{Telegram}
-use Rattle.radio_erp2_model.specs.Header.{header_byte, is_reserved, is_type_extended, is_addressed, extension_byte}
+use Rattle.radio_erp2_model.specs.Header.{header_byte, is_reserved, is_type_extended, is_addressed, extension_byte, announced_of}
 use Rattle.radio_erp2_model.specs.Sizes.{max_short, max_length, short_sizes, long_sizes, overhead}
 
 -- the Length of a short form is not 0; for a long form it is
@@ -16,11 +17,16 @@ is_short_form t = not (eqb t.short 0)
 
 -- the sizes of a telegram's fields
 abbrev pub sizes_for : Telegram → Sizes
-sizes_for t = cond (is_short_form t) (short_sizes t.short) (long_sizes t.header t.extension.announced)
+sizes_for t = cond (is_short_form t) (short_sizes t.short) (long_sizes t.header (announced_of t.extension))
 
 -- the number of bytes of Data_PL
 unfoldable pub telegram_size : Telegram → ℕ
 telegram_size t = overhead (sizes_for t) + t.len
+
+-- an extended header, if there is one, with a value its bits can't hold
+abbrev pub is_extension_over : Option Extension → Bool
+is_extension_over (Some e) = ltb 15 e.hops || ltb 15 e.announced
+is_extension_over None = false
 
 -- "a value its bits can't hold": a field that is not present has no bits
 unfoldable pub is_unholdable : Telegram → Bool
@@ -29,7 +35,7 @@ is_unholdable t =
     || cond (is_short_form t) (ltb max_short t.short)
     (ltb 7 t.header.control
     || ltb 15 t.header.kind
-    || (t.extension.present && (ltb 15 t.extension.hops || ltb 15 t.extension.announced)))
+    || is_extension_over t.extension)
 
 -- one flag is set and the other is not
 abbrev pub differ : Bool → Bool → Bool
@@ -38,9 +44,9 @@ differ a b = cond a (not b) b
 -- "an optional field there or missing against the header"; a short form has no header, so it has no optional field
 unfoldable pub is_against_header : Telegram → Bool
 is_against_header t =
-    differ t.extension.present (not (is_short_form t) && t.header.extended)
-    || differ t.subtype.present (not (is_short_form t) && is_type_extended t.header)
-    || differ t.destination.present (not (is_short_form t) && is_addressed t.header)
+    differ (is_some t.extension) (not (is_short_form t) && t.header.extended)
+    || differ (is_some t.subtype) (not (is_short_form t) && is_type_extended t.header)
+    || differ (is_some t.destination) (not (is_short_form t) && is_addressed t.header)
 
 -- "fields that don't fit the length": a short form names its length; a long form has 7 to 255
 unfoldable pub is_misfitting : Telegram → Bool
@@ -63,9 +69,9 @@ abbrev pub bytes_by_size : Telegram → Sizes → List ℕ
 bytes_by_size t z =
     be z.header (header_byte t.header)
     ++ be z.extension (extension_byte t.extension)
-    ++ be z.subtype t.subtype.value
+    ++ be z.subtype (unwrap_or t.subtype 0)
     ++ be z.originator t.originator
-    ++ be z.destination t.destination.id
+    ++ be z.destination (unwrap_or t.destination 0)
     ++ data_of t
     ++ take z.optional t.optional
 

@@ -1,13 +1,13 @@
 -- The claims on reading and building, for every list of bytes and every telegram (document 02, A4: "Both round trips
 -- hold, with the presence of each optional field part of what was read"). proofs/Theorems.antt proves them.
-use Rattle.std.specs.Prelude.{◌≡◌, true, false, cond, List, [], ◌∷◌, map, ℕ, ◌-◌, ◌*◌, ◌^◌, ◌≤◌, ◌<◌, length}
+use Rattle.std.specs.Prelude.{◌≡◌, true, false, cond, List, [], ◌∷◌, map, ℕ, ◌-◌, ◌*◌, ◌^◌, ◌≤◌, ◌<◌, length, unwrap_or}
 use Rattle.base_lists.specs.Lists.{padded}
 use Rattle.block_layout.specs.BigEndian.{Bytes}
 use Rattle.radio_telegram.specs.Output.{written, result_bytes}
 use Rattle.radio_erp2_model.specs.declared.Telegram.{Telegram}
 use Rattle.radio_erp2_model.specs.Header.{header_fields, is_reserved}
 use Rattle.radio_erp2_model.specs.Sizes.{short_sizes, long_sizes, overhead}
-use Rattle.radio_erp2_model.specs.Reading.{max_data, max_optional, has_short_length, no_header, no_extension, no_subtype, no_destination, read_of}
+use Rattle.radio_erp2_model.specs.Reading.{max_data, max_optional, has_short_length, no_header, read_of}
 use Rattle.radio_erp2_model.specs.Building.{is_short_form, data_of, optional_of, build_of}
 
 -- ---- the round trips
@@ -22,25 +22,25 @@ BuildRead =
 pub record Shaped (t : Telegram) : Type 0 where
   pub payload : length t.payload ≡ max_data
   pub optional : length t.optional ≡ max_optional
-  pub value : t.subtype.value < 256
-  pub id : t.destination.id < 256 ^ 4
+  pub value : unwrap_or t.subtype 0 < 256
+  pub id : unwrap_or t.destination 0 < 256 ^ 4
 
--- a telegram with zeros for all that its bytes do not carry: after its data and optional data, for a field that is not
--- present, and for the header of a short form
+-- a telegram with zeros for all that its bytes do not carry: after its data and optional data, and for the header of a
+-- short form
 abbrev pub normal_of : Telegram → Telegram
 normal_of t = record {
   short = t.short;
   header = cond (is_short_form t) no_header t.header;
-  extension = cond t.extension.present t.extension no_extension;
-  subtype = cond t.subtype.present t.subtype no_subtype;
+  extension = t.extension;
+  subtype = t.subtype;
   originator = t.originator;
-  destination = cond t.destination.present t.destination no_destination;
+  destination = t.destination;
   payload = padded max_data (data_of t);
   len = t.len;
   optional = padded max_optional (optional_of t);
 }
 
--- Read built: what is built reads back, with the flag of each optional field.
+-- Read built: what is built reads back, with each optional field or without it.
 abbrev pub ReadBuilt : Type 0
 ReadBuilt =
     (t : Telegram) → Shaped t → (out : List ℕ) → (build_of t out).number ≡ 0

@@ -1,5 +1,5 @@
 -- The bits of the header and of the extended header (source document 004, figures 11 and 12). Bit 7 is the highest.
-use Rattle.std.specs.Prelude.{ℕ, ◌+◌, ◌*◌, ◌/◌, ◌%◌, Bool, cond, leb, eqb}
+use Rattle.std.specs.Prelude.{ℕ, ◌+◌, ◌*◌, ◌/◌, ◌%◌, Bool, cond, leb, eqb, Option, Some, None}
 use Rattle.radio_erp2_model.specs.declared.Header.{Header}
 use Rattle.radio_erp2_model.specs.declared.Extension.{Extension}
 
@@ -27,10 +27,19 @@ is_addressed h = eqb h.control 2
 
 -- ---- the extended header (figure 12): bits 4 to 7 repeater count, bits 0 to 3 length of optional data
 
--- the parts of an extended header byte
-abbrev pub extension_of : Bool → ℕ → Extension
-extension_of present b = record { present = present; hops = b / 16; announced = b % 16 }
+-- the parts of an extended header byte, if there is one
+abbrev pub extension_of : Bool → ℕ → Option Extension
+extension_of present b = cond present (Some (record { hops = b / 16; announced = b % 16 })) None
 
--- the byte of an extended header
-abbrev pub extension_byte : Extension → ℕ
-extension_byte e = e.hops * 16 + e.announced
+-- the byte of an extended header; where there is none, the three words are 0
+abbrev pub extension_byte : Option Extension → ℕ
+extension_byte (Some e) = e.hops * 16 + e.announced
+extension_byte None = 0
+
+abbrev pub hops_of : Option Extension → ℕ
+hops_of (Some e) = e.hops
+hops_of None = 0
+
+abbrev pub announced_of : Option Extension → ℕ
+announced_of (Some e) = e.announced
+announced_of None = 0

@@ -1,19 +1,15 @@
 -- Reading the list of the length byte and Data_PL (document 02, A4; source document 004, 4.4 to 4.6).
-use Rattle.std.specs.Prelude.{ℕ, ◌+◌, ◌-◌, ◌%◌, Bool, false, cond, not, ◌||◌, List, leb, ltb, eqb, length, get_or, replicate}
+use Rattle.std.specs.Prelude.{ℕ, ◌+◌, ◌-◌, ◌%◌, Bool, false, cond, not, ◌||◌, List, leb, ltb, eqb, length, get_or, replicate, Some, None, Ok, Err, Result}
 use Rattle.base_lists.specs.Lists.{padded}
 use Rattle.base_refusal.specs.Number.{number_of}
+use Rattle.base_refusal.specs.declared.Refusal.{Refusal}
 use Rattle.base_refusal.specs.declared.Refusal.TheVariants.{Length, Crc, ReservedAddress, Misfit}
 use Rattle.base_crc8.specs.Crc8.{crc_of}
 use Rattle.base_buffers.specs.Buffer.{part}
 use Rattle.block_layout.specs.BigEndian.{unbe}
-use Rattle.radio_erp1.specs.Subtelegram.{checked_number}
 use Rattle.radio_erp2_model.specs.declared.Header.{Header}
 use Rattle.radio_erp2_model.specs.declared.Sizes.{Sizes}
-use Rattle.radio_erp2_model.specs.declared.Extension.{Extension}
-use Rattle.radio_erp2_model.specs.declared.Subtype.{Subtype}
-use Rattle.radio_erp2_model.specs.declared.Destination.{Destination}
 use Rattle.radio_erp2_model.specs.declared.Telegram.{Telegram}
-use Rattle.radio_erp2_model.specs.declared.Reading.{Reading}
 use Rattle.radio_erp2_model.specs.Header.{header_fields, extension_of, is_reserved, is_type_extended, is_addressed}
 use Rattle.radio_erp2_model.specs.Sizes.{max_short, short_sizes, long_sizes, overhead, extension_at, subtype_at, originator_at, destination_at, payload_at}
 
@@ -66,7 +62,7 @@ check_of s =
 
 -- ---- the fields
 
--- the fields of a list by their sizes, with n bytes of data; a field of 0 bytes reads as 0
+-- the fields of a list by their sizes, with n bytes of data; an Originator-ID of 0 bytes reads as 0
 abbrev pub fields_by_size : List ℕ → Sizes → ℕ → ℕ → Telegram
 fields_by_size s z n short =
     let h = header_fields (unbe (part 1 z.header s)) in
@@ -75,9 +71,9 @@ fields_by_size s z n short =
       short = short;
       header = h;
       extension = extension_of h.extended b;
-      subtype = record { present = is_type_extended h; value = unbe (part (subtype_at z) z.subtype s) };
+      subtype = cond (is_type_extended h) (Some (unbe (part (subtype_at z) z.subtype s))) None;
       originator = unbe (part (originator_at z) z.originator s);
-      destination = record { present = is_addressed h; id = unbe (part (destination_at z) z.destination s) };
+      destination = cond (is_addressed h) (Some (unbe (part (destination_at z) z.destination s))) None;
       payload = padded max_data (part (payload_at z) n s);
       len = n;
       optional = padded max_optional (part (payload_at z + n) z.optional s);
@@ -87,29 +83,20 @@ fields_by_size s z n short =
 unfoldable pub fields_of : List ℕ → Telegram
 fields_of s = fields_by_size s (sizes_in s) (length_byte s - overhead (sizes_in s)) (cond (has_short_length s) (length_byte s) 0)
 
--- ---- fields that are not present
+-- ---- what a refusal shows
 
 abbrev pub no_header : Header
 no_header = record { control = 0; extended = false; kind = 0 }
 
-abbrev pub no_extension : Extension
-no_extension = record { present = false; hops = 0; announced = 0 }
-
-abbrev pub no_subtype : Subtype
-no_subtype = record { present = false; value = 0 }
-
-abbrev pub no_destination : Destination
-no_destination = record { present = false; id = 0 }
-
--- with a refusal, everything is zero
+-- with a refusal, everything is zero, and no optional field is present
 abbrev pub no_telegram : Telegram
 no_telegram = record {
   short = 0;
   header = no_header;
-  extension = no_extension;
-  subtype = no_subtype;
+  extension = None;
+  subtype = None;
   originator = 0;
-  destination = no_destination;
+  destination = None;
   payload = replicate max_data 0;
   len = 0;
   optional = replicate max_optional 0;
@@ -122,8 +109,9 @@ pub record Read : Type 0 where
   pub number : ℕ
   pub telegram : Telegram
 
-abbrev pub shown_erp2_reading : Reading → Read
-shown_erp2_reading r = record { number = checked_number r.checked; telegram = r.telegram }
+abbrev pub shown_erp2_reading : Result Telegram Refusal → Read
+shown_erp2_reading (Ok t) = record { number = 0; telegram = t }
+shown_erp2_reading (Err why) = record { number = number_of why; telegram = no_telegram }
 
 -- reading a list
 unfoldable pub read_of : List ℕ → Read

@@ -2,8 +2,6 @@
 // undoes the other is in specs/Claims.antt.
 #![tactic(auto)]
 
-use radio_erp1::Checked;
-
 // The longest data of any telegram: 255 bytes without a header, an Originator-ID of 24 bits and the CRC.
 pub const MAX_DATA: usize = 250;
 
@@ -21,54 +19,36 @@ pub struct Header {
     pub kind: u8,
 }
 
-// The extended header (004, figure 12), if there is one.
+// The extended header (004, figure 12).
 #[derive(Clone, Copy)]
 pub struct Extension {
-    pub present: bool,
     // Repeater count.
     pub hops: u8,
     // Length of optional data.
     pub announced: u8,
 }
 
-// The extended telegram type (004, figure 13), if there is one.
-#[derive(Clone, Copy)]
-pub struct Subtype {
-    pub present: bool,
-    pub value: u8,
-}
-
-// The Destination-ID, if there is one.
-#[derive(Clone, Copy)]
-pub struct Destination {
-    pub present: bool,
-    pub id: u32,
-}
-
 #[derive(Clone, Copy)]
 pub struct Telegram {
     // The Length of a short form, 1 to 6; 0 for a long form.
+    // Kept (code): as an Option it is no plainer, because Some(0) and Some(7) would be values too, and the C call gives the byte itself.
     pub short: u8,
     pub header: Header,
-    pub extension: Extension,
-    pub subtype: Subtype,
+    pub extension: Option<Extension>,
+    // The extended telegram type (004, figure 13).
+    pub subtype: Option<u8>,
     pub originator: u64,
-    pub destination: Destination,
+    pub destination: Option<u32>,
     // Data_DL: the first `len` bytes.
+    // Kept (buffer): no heap; the theorem ReadBuilt speaks of the zeros after the data.
     pub payload: [u8; MAX_DATA],
     pub len: usize,
-    // Optional data: the first `extension.announced` bytes.
+    // Optional data: as many bytes as the extended header announces.
     pub optional: [u8; MAX_OPTIONAL],
 }
 
-// The answer of reading; with a refusal the telegram is all zero.
-#[derive(Clone, Copy)]
-pub struct Reading {
-    pub checked: Checked,
-    pub telegram: Telegram,
-}
-
 // How many bytes each field except the data has; a field that is not present has none.
+// Kept (code): with 0 for "not there", all forms have one order of fields, and the sum of the sizes is the length.
 #[derive(Clone, Copy)]
 pub struct Sizes {
     pub header: usize,

@@ -1,24 +1,25 @@
 -- The sameness rule by fields is document 01's. Where all before STATUS is equal, the fields are, but for STATUS; and fields that are equal
 -- are written as the same bytes before STATUS.
 use mathlib.Core.Path.{◌≡◌, refl, sym, ap, subst, ◌∙◌}
-use mathlib.Core.Bool.{Bool, true, false, cond, not, ◌&&◌, and-true, and-false, false≢true}
+use Rattle.std.specs.Prelude.{Option, Some, None}
+use mathlib.Core.Bool.{Bool, true, false, cond, and-true, and-false, false≢true}
 use mathlib.Core.List.{List, [], ◌∷◌, ◌++◌}
 use Prim.Native.Nat.{ℕ, ◌+◌}
 use native.Mathlib.Omega.{arith}
 use lib.Dec.{T, eqb}
-use lib.ListN.{length, replicate, length-append}
+use lib.ListN.{length, length-append}
 use borrow.Author.Tests.{eq-eqb, eqb-true}
 use Rattle.base_lists.specs.Lists.{equal}
 use Rattle.base_lists.proofs.Choice.{both}
 use Rattle.base_lists.proofs.Equal.{equal_eq, equal-refl}
 use Rattle.base_lists.proofs.Tests.{by_test}
 use Rattle.radio_erp1.specs.Status.{upper_of}
-use Rattle.radio_erp1.specs.Subtelegram.{hash_of, body_of, status_of, sealed_of, is_addressed, is_valid, before_status}
+use Rattle.radio_erp1.specs.Subtelegram.{hash_of, body_of, status_of, sealed_of, is_addressed, before_status}
 use Rattle.radio_erp1.specs.Same.{is_same}
 use Rattle.radio_erp1.proofs.Checks.{Sound, check_facts}
 use Rattle.radio_telegram.specs.declared.fields.Telegram.{Telegram}
 use Rattle.radio_telegram.specs.Fields.{plain_fields, addressed_fields, fields_of, data_of, before_data, ids_of, telegram_bytes, is_unbuildable, Buildable, Shaped, normal_of}
-use Rattle.radio_sameness.specs.Sameness.{is_same_address, is_same_data, is_same_telegram, SameByFields}
+use Rattle.radio_sameness.specs.Sameness.{is_same_destid, is_same_address, is_same_data, is_same_telegram, SameByFields}
 use Rattle.radio_telegram.proofs.Parts.{body_more}
 use Rattle.radio_telegram.proofs.Reading.{fields_fit}
 use Rattle.radio_telegram.proofs.Building.{buildable_fields}
@@ -72,18 +73,17 @@ with_status t st = record {
   rorg = t.rorg;
   payload = t.payload;
   len = t.len;
-  addressed = t.addressed;
   destid = t.destid;
   txid = t.txid;
   status = st;
 }
 
+same_destid : (o : Option (List ℕ)) → is_same_destid o o ≡ true
+same_destid None = refl
+same_destid (Some d) = equal-refl d
+
 same_address : (t : Telegram) (st : ℕ) → is_same_address t (normal_of (with_status t st)) ≡ true
-same_address t st = go t.addressed
-  where
-    go : (f : Bool) → cond f (f && equal t.destid (cond f t.destid (replicate 4 0))) (not f) ≡ true
-    go true = equal-refl t.destid
-    go false = refl
+same_address t st = same_destid t.destid
 
 module _ (a b : List ℕ) (va : Sound a) (vb : Sound b) (front : before_status a ≡ before_status b) where
   abbrev other : Telegram
@@ -147,16 +147,15 @@ module _ (t u : Telegram) (same : is_same_telegram t u ≡ true) where
   pub same_txid : t.txid ≡ u.txid
   same_txid = agreed.txid
 
-  heads : (f g : Bool) → t.addressed ≡ f → u.addressed ≡ g
-      → cond f (g && equal t.destid u.destid) (not g) ≡ true → front_of t ≡ front_of u
-  heads true true p q e =
-      rw (p, q, agreed.payload, agreed.txid, equal_lists {xs = t.destid} {ys = u.destid} e, agreed.rorg)
-  heads true false p q e = absurd (false≢true e)
-  heads false true p q e = absurd (false≢true e)
-  heads false false p q e = rw (p, q, agreed.payload, agreed.txid, agreed.rorg)
+  heads : (f g : Option (List ℕ)) → t.destid ≡ f → u.destid ≡ g → is_same_destid f g ≡ true → front_of t ≡ front_of u
+  heads (Some d) (Some d') p q e =
+      rw (p, q, agreed.payload, agreed.txid, equal_lists {xs = d} {ys = d'} e, agreed.rorg)
+  heads (Some d) None p q e = absurd (false≢true e)
+  heads None (Some d') p q e = absurd (false≢true e)
+  heads None None p q e = rw (p, q, agreed.payload, agreed.txid, agreed.rorg)
 
   same_front : front_of t ≡ front_of u
-  same_front = heads t.addressed u.addressed refl refl agreed.address
+  same_front = heads t.destid u.destid refl refl agreed.address
 
 -- ---- the law
 

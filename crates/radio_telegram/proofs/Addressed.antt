@@ -1,4 +1,5 @@
 -- The cases of `encapsulate_of` and `decapsulate_of`.
+use Rattle.std.specs.Prelude.{Err}
 use mathlib.Core.Path.{◌≡◌, refl}
 use mathlib.Core.Bool.{Bool, true, false, cond, not}
 use mathlib.Core.List.{List}
@@ -11,7 +12,6 @@ use Rattle.base_refusal.proofs.Numbers.{refused-number}
 use Rattle.radio_erp1.specs.Subtelegram.{check_of, is_addressed, is_valid}
 use Rattle.radio_erp1.proofs.Checks.{check_facts, not_valid}
 use Rattle.radio_telegram.specs.declared.fields.Telegram.{Telegram}
-use Rattle.radio_telegram.specs.declared.frame.Built.TheVariants.{Refused}
 use Rattle.radio_telegram.specs.Output.{Result, result_of, refused, put_of}
 use Rattle.radio_telegram.specs.Fields.{fields_of, is_unbuildable, build_of}
 use Rattle.radio_telegram.specs.Addressing.{addressed_to, unaddressed, encapsulated, decapsulated, encapsulate_of, decapsulate_of}
@@ -20,11 +20,11 @@ use Rattle.radio_telegram.proofs.Reading.{fields_fit}
 
 module _ (s out : List ℕ) where
   module _ (why : Refusal) (e : number_of why ≡ check_of s) where
-    pub encapsulate_refused : (to : List ℕ) → result_of (Refused why) out ≡ encapsulate_of s to out
+    pub encapsulate_refused : (to : List ℕ) → result_of (Err why) out ≡ encapsulate_of s to out
     unfolding encapsulate_of
     encapsulate_refused to = rw (not_valid s why e, e)
 
-    pub decapsulate_refused : result_of (Refused why) out ≡ decapsulate_of s out
+    pub decapsulate_refused : result_of (Err why) out ≡ decapsulate_of s out
     unfolding decapsulate_of
     decapsulate_refused = rw (not_valid s why e, e)
 
@@ -56,11 +56,11 @@ module _ (s out : List ℕ) where
 
   module _ (valid : check_of s ≡ 0) where
     pub encapsulate_nested : (to : List ℕ) → is_addressed s ≡ true
-        → result_of (Refused Nested) out ≡ encapsulate_of s to out
+        → result_of (Err Nested) out ≡ encapsulate_of s to out
     unfolding encapsulate_of
     encapsulate_nested to a = rw (valid, a)
 
-    pub decapsulate_plain : is_addressed s ≡ false → result_of (Refused NotAddressed) out ≡ decapsulate_of s out
+    pub decapsulate_plain : is_addressed s ≡ false → result_of (Err NotAddressed) out ≡ decapsulate_of s out
     unfolding decapsulate_of
     decapsulate_plain a = rw (valid, a)
 

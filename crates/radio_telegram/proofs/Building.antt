@@ -1,7 +1,8 @@
 -- The cases of `admission_of` and `build_of`, and the lengths of a telegram that can be built.
+use Rattle.std.specs.Prelude.{Option, Some, None, Err, IfSome, is_some, unwrap_or}
 use mathlib.Core.Path.{◌≡◌, refl, ◌∙◌}
-use mathlib.Core.Bool.{Bool, true, false, ◌||◌}
-use mathlib.Core.List.{List}
+use mathlib.Core.Bool.{Bool, true, false, cond, ◌||◌}
+use mathlib.Core.List.{List, []}
 use Prim.Native.Nat.{ℕ, ◌+◌, ◌≤◌, ◌<◌}
 use native.Mathlib.Omega.{arith}
 use lib.Dec.{ltb, eqb}
@@ -15,29 +16,36 @@ use Rattle.base_refusal.proofs.Numbers.{refused-number}
 use Rattle.radio_erp1.specs.Subtelegram.{addressed, max_length}
 use Rattle.radio_telegram.proofs.Frames.{unrefused}
 use Rattle.radio_telegram.specs.declared.fields.Telegram.{Telegram}
-use Rattle.radio_telegram.specs.declared.frame.Built.TheVariants.{Refused}
 use Rattle.radio_telegram.specs.Output.{result_of, put_of}
 use Rattle.radio_telegram.specs.Fields.{max_data, data_of, before_data, ids_of, telegram_bytes, is_unbuildable, build_of, admission_of, Buildable, Shaped}
 
 -- ---- the lengths of what is built
 
+address_length : (o : Option (List ℕ)) → IfSome o (λ d. length d ≡ 4) → length (unwrap_or o []) ≡ cond (is_some o) 4 0
+address_length None h = refl
+address_length (Some d) h = h
+
 module _ (t : Telegram) (shape : Shaped t) (high : t.len ≤ max_data) where
   pub data_length : length (data_of t) ≡ t.len
   data_length = length-take t.len t.payload ∙ omega (arith, shape.payload)
 
-  pub ids_addressed : t.addressed ≡ true → length (ids_of t) ≡ 8
-  ids_addressed e = rw (e, length-append) (omega (arith, shape.destid, shape.txid))
+  pub ids_addressed : is_some t.destid ≡ true → length (ids_of t) ≡ 8
+  ids_addressed e = let d = rw e at (address_length t.destid shape.destid) in
+      rw length-append (omega (arith, d, shape.txid))
 
-  pub ids_plain : t.addressed ≡ false → length (ids_of t) ≡ 4
-  ids_plain e = rw e shape.txid
+  pub ids_plain : is_some t.destid ≡ false → length (ids_of t) ≡ 4
+  ids_plain e = let d = rw e at (address_length t.destid shape.destid) in
+      rw length-append (omega (arith, d, shape.txid))
 
-  pub bytes-addressed : t.addressed ≡ true → length (telegram_bytes t) ≡ t.len + 12
+  pub bytes-addressed : is_some t.destid ≡ true → length (telegram_bytes t) ≡ t.len + 12
   unfolding telegram_bytes
-  bytes-addressed e = simp (length-append, data_length, ids_addressed e, e) (omega arith)
+  bytes-addressed e = let ids = ids_addressed e in
+      rw e (simp (length-append, data_length) (omega (arith, ids, length-append {A = ℕ})))
 
-  pub bytes-plain : t.addressed ≡ false → length (telegram_bytes t) ≡ t.len + 7
+  pub bytes-plain : is_some t.destid ≡ false → length (telegram_bytes t) ≡ t.len + 7
   unfolding telegram_bytes
-  bytes-plain e = simp (length-append, data_length, ids_plain e, e) (omega arith)
+  bytes-plain e = let ids = ids_plain e in
+      rw e (simp (length-append, data_length) (omega (arith, ids, length-append {A = ℕ})))
 
   -- the parts of what is built
   pub bytes-length : length (telegram_bytes t) ≡ length (before_data t) + t.len + length (ids_of t) + 2
@@ -92,12 +100,12 @@ module _ (t : Telegram) where
 -- ---- the cases of `build_of`
 
 module _ (t : Telegram) (out : List ℕ) where
-  pub build_refused : (why : Refusal) → number_of why ≡ admission_of t → result_of (Refused why) out ≡ build_of t out
+  pub build_refused : (why : Refusal) → number_of why ≡ admission_of t → result_of (Err why) out ≡ build_of t out
   unfolding admission_of build_of put_of
   build_refused why e = go (is_unbuildable t) (ltb max_length (length (telegram_bytes t))) refl refl
     where
       go : (a b : Bool) → is_unbuildable t ≡ a → ltb max_length (length (telegram_bytes t)) ≡ b
-          → result_of (Refused why) out ≡ build_of t out
+          → result_of (Err why) out ≡ build_of t out
       go true b p q = let n : number_of why ≡ number_of Argument = rw p at e in rw (p, n)
       go false true p q = let n : number_of why ≡ number_of TooLong = rw (p, q) at e in rw (p, q, n)
       go false false p q = let n : number_of why ≡ 0 = rw (p, q) at e in absurd (refused-number why n)

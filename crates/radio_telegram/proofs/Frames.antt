@@ -1,4 +1,5 @@
 -- Lists that are zero filled to a length: one element more, and a list more.
+use Rattle.std.specs.Prelude.{Ok, Err}
 use mathlib.Core.Path.{◌≡◌, refl, sym, ap, ◌∙◌}
 use mathlib.Core.Bool.{Bool, true, false, cond}
 use mathlib.Core.List.{List, [], ◌∷◌, ◌++◌, append_assoc, append-nil}
@@ -14,7 +15,6 @@ use Rattle.radio_telegram.specs.declared.frame.Frame.{Frame}
 use borrow.Author.Tests.{lt-ltb, le-ltb, ltb-false}
 use Rattle.base_refusal.specs.declared.Refusal.TheVariants.{TooLong, ShortOutput}
 use Rattle.base_refusal.proofs.Numbers.{refused-number}
-use Rattle.radio_telegram.specs.declared.frame.Built.TheVariants.{Done, Refused}
 use Rattle.base_lists.specs.Lists.{padded}
 use Rattle.base_lists.proofs.Padded.{drop-replicate}
 use Rattle.radio_erp1.specs.Subtelegram.{max_length}
@@ -74,13 +74,6 @@ frame_append f src last n h p q = record {
       rw (p, q, e) (λ i. record { len = sym (length-append xs src) i; bytes = padded_append 21 xs src k i });
 }
 
--- one extension after another
-pub extended_twice : (f g r : Frame) (xs ys : List ℕ) → Extended f g xs → Extended g r ys → Extended f r (xs ++ ys)
-extended_twice f g r xs ys p q = record {
-  len = rw length-append (omega (arith, p.len, q.len));
-  bytes = λ zs e. rw (← append_assoc) (q.bytes (zs ++ xs) (p.bytes zs e));
-}
-
 pub frame-len : (f : Frame) (xs : List ℕ) → f ≡ frame_of xs → f.len ≡ length xs
 unfolding frame_of
 frame-len f xs e = ap (λ (g : Frame). g.len) e
@@ -131,7 +124,7 @@ module _ (xs out : List ℕ) where
       (ltb-false _ _ p.0, ltb-false _ _ q.0)
 
   module _ (fits : length xs ≤ max_length) where
-    pub put-short : length out < length xs → result_of (Refused ShortOutput) out ≡ put_of xs out
+    pub put-short : length out < length xs → result_of (Err ShortOutput) out ≡ put_of xs out
     unfolding put_of
     put-short h = simp (le-ltb _ _ fits, lt-ltb _ _ h)
 
@@ -140,5 +133,5 @@ module _ (xs out : List ℕ) where
     put_written h = simp (le-ltb _ _ fits, le-ltb _ _ h)
 
     pub put_all : (src last : List ℕ) (r : ℕ) → src ≡ xs → length src ≤ length out → r ≡ length src
-        → last ≡ take (length src) src ++ drop (length src) out → result_of (Done r) last ≡ put_of xs out
+        → last ≡ take (length src) src ++ drop (length src) out → result_of (Ok r) last ≡ put_of xs out
     put_all src last r e h p q = rw (p, q, e, take-length) (sym (put_written (rw e at h)))

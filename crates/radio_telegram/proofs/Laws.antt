@@ -1,20 +1,20 @@
 -- The claims of specs/Claims.antt: each codec undoes the other, as whole answers, and what a repeater sends.
 use mathlib.Core.Path.{◌≡◌, refl, sym, ap, ◌∙◌}
+use Rattle.std.specs.Prelude.{is_some}
 use mathlib.Core.Bool.{Bool, true, false}
-use mathlib.Core.List.{List, []}
-use Prim.Native.Nat.{ℕ, ◌≤◌, ◌<◌}
+use mathlib.Core.List.{List}
+use Prim.Native.Nat.{ℕ, ◌≤◌}
 use lib.Dec.{ltb}
 use lib.ListN.{length}
 use lib.Seq.{take-append_seam}
 use borrow.Author.Tests.{eqb-true, ltb-true}
 use Rattle.base_lists.proofs.Tests.{by_test}
-use Rattle.radio_erp1.specs.Subtelegram.{max_length, check_of, status_of, is_valid}
+use Rattle.radio_erp1.specs.Subtelegram.{max_length, check_of, is_valid}
 use Rattle.radio_erp1.proofs.Checks.{check_facts}
 use Rattle.radio_telegram.specs.declared.fields.Telegram.{Telegram}
 use Rattle.radio_telegram.specs.Output.{Result, written, result_bytes, put_of}
-use Rattle.radio_telegram.specs.Fields.{fields_of, Read, read_of, telegram_bytes, is_unbuildable, build_of, Buildable, Shaped, normal_of}
+use Rattle.radio_telegram.specs.Fields.{fields_of, destid_of, Read, read_of, telegram_bytes, is_unbuildable, build_of, Buildable, Shaped}
 use Rattle.radio_telegram.specs.Addressing.{addressed_to, unaddressed, encapsulated, decapsulated, encapsulate_of, decapsulate_of}
-use Rattle.radio_telegram.specs.Frame.{frame_of}
 use Rattle.radio_telegram.specs.Repeater.{level_of, max_setting, repeats, repeat_of, repeat_result, RaisedFrom}
 use Rattle.radio_telegram.specs.Claims.{ReadBuilt, BuildRead, DecapsulateEncapsulated, EncapsulateDecapsulated, SentRaised, CallSends}
 use Rattle.radio_telegram.proofs.Frames.{put_facts, put_written}
@@ -62,13 +62,13 @@ build_read s out e h =
 -- what was written is removed from, and encapsulated again
 module _ (t : Telegram) (shape : Shaped t) (b : Buildable t) (s last : List ℕ)
     (high : length s ≤ max_length) (h : length s ≤ length last) where
-  removed : t.addressed ≡ true → telegram_bytes (unaddressed t) ≡ s
+  removed : is_some t.destid ≡ true → telegram_bytes (unaddressed t) ≡ s
       → decapsulate_of (telegram_bytes t) last ≡ written s last
   removed a e =
       sym (decapsulate_put (telegram_bytes t) last (built_valid t shape b) (built_flag t shape b ∙ a))
       ∙ ap (λ (xs : List ℕ). put_of xs last) (built_decapsulated t shape b ∙ e) ∙ put_written s last high h
 
-  addressed_again : (to : List ℕ) → t.addressed ≡ false → telegram_bytes (addressed_to t to) ≡ s
+  addressed_again : (to : List ℕ) → is_some t.destid ≡ false → telegram_bytes (addressed_to t to) ≡ s
       → encapsulate_of (telegram_bytes t) to last ≡ written s last
   addressed_again to a e =
       sym (encapsulate_put (telegram_bytes t) last (built_valid t shape b) to (built_flag t shape b ∙ a))
@@ -97,9 +97,9 @@ encapsulate_decapsulated s out last e h =
     let p = put_facts (decapsulated s) out f.2 in
     let made = sym (decapsulate_put s out f.0 f.1) ∙ put_written (decapsulated s) out p.0 p.1 in
     let v = check_facts s f.0 in
-    let to = (fields_of s).destid in
+    let to = destid_of (fields_of s) in
     let shape : Shaped (unaddressed (fields_of s)) =
-    record { payload = (read_shaped s v).payload; destid = refl; txid = (read_shaped s v).txid } in
+    record { payload = (read_shaped s v).payload; destid = tt; txid = (read_shaped s v).txid } in
     let b = buildable_fields (unaddressed (fields_of s)) (fields_fit s v) p.0 in
     ap (λ (r : Result). encapsulate_of (result_bytes r) to last) made
     ∙ ap (λ (xs : List ℕ). encapsulate_of xs to last) (written-bytes (decapsulated s) out)

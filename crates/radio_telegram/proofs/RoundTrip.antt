@@ -1,17 +1,18 @@
 -- What is built is valid and reads back, what is read builds the same bytes, and an address is put on and taken off.
 use mathlib.Core.Path.{◌≡◌, refl, sym, ap, ◌∙◌}
-use mathlib.Core.Bool.{Bool, true, false}
+use Rattle.std.specs.Prelude.{Option, Some, None, is_some}
+use mathlib.Core.Bool.{Bool, true, false, true≢false, false≢true}
 use mathlib.Core.List.{List, [], ◌∷◌, ◌++◌, append_assoc}
-use Prim.Native.Nat.{ℕ, ◌+◌, ◌-◌, ◌≤◌}
+use Prim.Native.Nat.{ℕ, ◌-◌, ◌≤◌}
 use native.Mathlib.Omega.{arith}
-use lib.ListN.{length, get_or, take, drop, replicate, length-append, length-drop, length-replicate}
+use lib.ListN.{length, get_or, take, drop, length-append, length-drop, length-replicate}
 use lib.Seq.{take_at, take_all, length-take-le}
 use borrow.Author.Tests.{eqb-true, eqb-false}
 use Rattle.base_lists.specs.Lists.{padded}
 use Rattle.radio_erp1.specs.Subtelegram.{addressed, body_of, last_byte, status_of, is_addressed, check_of, sealed_of}
 use Rattle.radio_erp1.proofs.Checks.{Sound, check-plain, check-addressed, status_at}
 use Rattle.radio_telegram.specs.declared.fields.Telegram.{Telegram}
-use Rattle.radio_telegram.specs.Fields.{max_data, between, plain_fields, addressed_fields, fields_of, data_of, telegram_bytes, Buildable, Shaped, normal_of}
+use Rattle.radio_telegram.specs.Fields.{max_data, between, plain_fields, addressed_fields, fields_of, destid_of, data_of, telegram_bytes, Buildable, Shaped, normal_of}
 use Rattle.radio_telegram.specs.Addressing.{addressed_to, unaddressed, encapsulated, decapsulated}
 use Rattle.radio_telegram.proofs.Reading.{fields-plain, fields-addressed, fields_flag}
 use Rattle.radio_telegram.proofs.Building.{data_length, bytes-addressed}
@@ -33,8 +34,7 @@ module _ (rorg : ℕ) (D X : List ℕ) (st : ℕ) (low : 1 ≤ length D) (x : le
         rorg = rorg;
         payload = padded max_data D;
         len = length D;
-        addressed = false;
-        destid = replicate 4 0;
+        destid = None;
         txid = X;
         status = st;
       }
@@ -66,8 +66,7 @@ module _ (rorg : ℕ) (D E X : List ℕ) (st : ℕ) (low : 1 ≤ length D)
         rorg = rorg;
         payload = padded max_data D;
         len = length D;
-        addressed = true;
-        destid = E;
+        destid = Some E;
         txid = X;
         status = st;
       }
@@ -89,36 +88,36 @@ module _ (t : Telegram) (shape : Shaped t) (a : Buildable t) where
   long : length (data_of t) ≡ t.len
   long = data_length t shape a.high
 
-  laid_plain : t.addressed ≡ false → telegram_bytes t ≡ laid (t.rorg ∷ []) (data_of t) [] t.txid t.status
+  laid_plain : t.destid ≡ None → telegram_bytes t ≡ laid (t.rorg ∷ []) (data_of t) [] t.txid t.status
   unfolding telegram_bytes laid
   laid_plain e = rw e
 
-  laid_addressed : t.addressed ≡ true
-      → telegram_bytes t ≡ laid (addressed ∷ t.rorg ∷ []) (data_of t) t.destid t.txid t.status
+  laid_addressed : (d : List ℕ) → t.destid ≡ Some d
+      → telegram_bytes t ≡ laid (addressed ∷ t.rorg ∷ []) (data_of t) d t.txid t.status
   unfolding telegram_bytes laid
-  laid_addressed e = rw e
+  laid_addressed d e = rw e
 
   -- what is built is valid
   pub built_valid : check_of (telegram_bytes t) ≡ 0
-  built_valid = go t.addressed refl
+  built_valid = go t.destid refl
     where
-      go : (b : Bool) → t.addressed ≡ b → check_of (telegram_bytes t) ≡ 0
-      go false e =
+      go : (o : Option (List ℕ)) → t.destid ≡ o → check_of (telegram_bytes t) ≡ 0
+      go None e =
           rw (laid_plain e)
           (sym (plain-valid t.rorg (data_of t) t.txid t.status (omega (arith, long, a.low))
           shape.txid a.inner (omega (arith, long, a.high))))
-      go true e =
-          rw (laid_addressed e)
-          (sym (addressed-valid t.rorg (data_of t) t.destid t.txid t.status
-          (omega (arith, long, a.low)) shape.destid shape.txid a.inner
-          (omega (arith, long, a.fits, bytes-addressed t shape a.high e))))
+      go (Some d) e =
+          rw (laid_addressed d e)
+          (sym (addressed-valid t.rorg (data_of t) d t.txid t.status
+          (omega (arith, long, a.low)) (rw e at shape.destid) shape.txid a.inner
+          (omega (arith, long, a.fits, bytes-addressed t shape a.high (rw e)))))
 
   -- and reads back
   pub built_reads : fields_of (telegram_bytes t) ≡ normal_of t
-  built_reads = go t.addressed refl
+  built_reads = go t.destid refl
     where
-      go : (b : Bool) → t.addressed ≡ b → fields_of (telegram_bytes t) ≡ normal_of t
-      go false e =
+      go : (o : Option (List ℕ)) → t.destid ≡ o → fields_of (telegram_bytes t) ≡ normal_of t
+      go None e =
           rw (
             laid_plain e,
             plain-fields t.rorg (data_of t) t.txid t.status
@@ -127,11 +126,11 @@ module _ (t : Telegram) (shape : Shaped t) (a : Buildable t) where
             e,
           )
           refl
-      go true e =
+      go (Some d) e =
           rw (
-            laid_addressed e,
-            addressed-fields t.rorg (data_of t) t.destid t.txid t.status
-                (omega (arith, long, a.low)) shape.destid shape.txid a.inner,
+            laid_addressed d e,
+            addressed-fields t.rorg (data_of t) d t.txid t.status
+                (omega (arith, long, a.low)) (rw e at shape.destid) shape.txid a.inner,
             long,
             e,
           )
@@ -232,24 +231,34 @@ module _ (s : List ℕ) (v : Sound s) where
             payload =
                 padded-length max_data (between 1 (length s - 6) s)
                 (rw (part_length 1 (length s - 6) s (omega arith) (omega arith)) (omega (arith, v.high)));
-            destid = refl;
+            destid = tt;
             txid = part_length (length s - 6) (length s - 2) s (omega arith) (omega arith) ∙ omega arith;
           })
 
 -- ---- the address of what was built, put on and taken off
 
 module _ (t : Telegram) where
-  unaddressed_same : t.addressed ≡ false → telegram_bytes (unaddressed t) ≡ telegram_bytes t
+  unaddressed_same : is_some t.destid ≡ false → telegram_bytes (unaddressed t) ≡ telegram_bytes t
   unfolding telegram_bytes
-  unaddressed_same e = rw e
+  unaddressed_same e = go t.destid refl e
+    where
+      go : (o : Option (List ℕ)) → t.destid ≡ o → is_some o ≡ false
+          → telegram_bytes (unaddressed t) ≡ telegram_bytes t
+      go None p q = rw p
+      go (Some d) p q = absurd (true≢false q)
 
-  addressed_same : t.addressed ≡ true → telegram_bytes (addressed_to t t.destid) ≡ telegram_bytes t
+  addressed_same : is_some t.destid ≡ true → telegram_bytes (addressed_to t (destid_of t)) ≡ telegram_bytes t
   unfolding telegram_bytes
-  addressed_same e = rw e
+  addressed_same e = go t.destid refl e
+    where
+      go : (o : Option (List ℕ)) → t.destid ≡ o → is_some o ≡ true
+          → telegram_bytes (addressed_to t (destid_of t)) ≡ telegram_bytes t
+      go None p q = absurd (false≢true q)
+      go (Some d) p q = rw p
 
   module _ (shape : Shaped t) (a : Buildable t) where
-    pub built_flag : is_addressed (telegram_bytes t) ≡ t.addressed
-    built_flag = sym (fields_flag (telegram_bytes t)) ∙ ap (λ (u : Telegram). u.addressed) (built_reads t shape a)
+    pub built_flag : is_addressed (telegram_bytes t) ≡ is_some t.destid
+    built_flag = sym (fields_flag (telegram_bytes t)) ∙ ap (λ (u : Telegram). is_some u.destid) (built_reads t shape a)
 
     pub normal_data : data_of (normal_of t) ≡ data_of t
     normal_data = take_at (data_of t) _ t.len (data_length t shape a.high)
@@ -268,5 +277,5 @@ module _ (s : List ℕ) (v : Sound s) where
   pub plain_itself : is_addressed s ≡ false → decapsulated s ≡ s
   plain_itself e = unaddressed_same (fields_of s) (fields_flag s ∙ e) ∙ read_builds s v
 
-  pub addressed_itself : is_addressed s ≡ true → encapsulated s (fields_of s).destid ≡ s
+  pub addressed_itself : is_addressed s ≡ true → encapsulated s (destid_of (fields_of s)) ≡ s
   addressed_itself e = addressed_same (fields_of s) (fields_flag s ∙ e) ∙ read_builds s v

@@ -1,5 +1,5 @@
 -- Addressed encapsulation and its removal (document 01, "Subtelegram"; 001, 4.3.2): STATUS is kept and HASH renewed.
-use Rattle.std.specs.Prelude.{ℕ, Bool, true, false, cond, not, List, replicate}
+use Rattle.std.specs.Prelude.{cond, not, List, ℕ, Option, Some, None}
 use Rattle.base_refusal.specs.Number.{number_of}
 use Rattle.base_refusal.specs.declared.Refusal.TheVariants.{Nested, NotAddressed}
 use Rattle.radio_erp1.specs.Subtelegram.{check_of, is_addressed, is_valid}
@@ -8,12 +8,11 @@ use Rattle.radio_telegram.specs.Output.{Result, refused, put_of}
 use Rattle.radio_telegram.specs.Fields.{fields_of, telegram_bytes}
 
 -- a telegram with another address, or with none; all else is unchanged, also STATUS
-abbrev pub with_address : Telegram → Bool → List ℕ → Telegram
-with_address t flag to = record {
+abbrev pub with_address : Telegram → Option (List ℕ) → Telegram
+with_address t to = record {
   rorg = t.rorg;
   payload = t.payload;
   len = t.len;
-  addressed = flag;
   destid = to;
   txid = t.txid;
   status = t.status;
@@ -21,11 +20,11 @@ with_address t flag to = record {
 
 -- a telegram addressed to a DESTID
 abbrev pub addressed_to : Telegram → List ℕ → Telegram
-addressed_to t to = with_address t true to
+addressed_to t to = with_address t (Some to)
 
 -- the same telegram, plain
 abbrev pub unaddressed : Telegram → Telegram
-unaddressed t = with_address t false (replicate 4 0)
+unaddressed t = with_address t None
 
 -- the bytes of s, encapsulated for a DESTID
 abbrev pub encapsulated : List ℕ → List ℕ → List ℕ

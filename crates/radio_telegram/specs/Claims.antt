@@ -5,7 +5,7 @@ use Rattle.radio_erp1.specs.Subtelegram.{status_of}
 use Rattle.radio_telegram.specs.declared.fields.Telegram.{Telegram}
 use Rattle.radio_telegram.specs.Frame.{frame_of}
 use Rattle.radio_telegram.specs.Output.{written, result_bytes}
-use Rattle.radio_telegram.specs.Fields.{fields_of, read_of, build_of, Shaped, normal_of}
+use Rattle.radio_telegram.specs.Fields.{fields_of, destid_of, read_of, build_of, Shaped, normal_of}
 use Rattle.radio_telegram.specs.Addressing.{encapsulate_of, decapsulate_of}
 use Rattle.radio_telegram.specs.Repeater.{repeat_of, repeat_result, RaisedFrom}
 
@@ -34,7 +34,7 @@ DecapsulateEncapsulated =
 abbrev pub EncapsulateDecapsulated : Type 0
 EncapsulateDecapsulated =
     (s out last : List ℕ) → (decapsulate_of s out).number ≡ 0 → length s ≤ length last
-    → encapsulate_of (result_bytes (decapsulate_of s out)) (fields_of s).destid last ≡ written s last
+    → encapsulate_of (result_bytes (decapsulate_of s out)) (destid_of (fields_of s)) last ≡ written s last
 
 -- ---- what a repeater sends
 

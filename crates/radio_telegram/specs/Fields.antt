@@ -1,11 +1,11 @@
 -- The fields of a subtelegram: the answer of reading, and the bytes of building (document 01, "Subtelegram").
-use Rattle.std.specs.Prelude.{ℕ, ◌-◌, ◌≤◌, ◌≡◌, Bool, true, false, cond, ◌||◌, List, [], ◌∷◌, ◌++◌, ltb, eqb, length, get_or, take, drop, replicate}
+use Rattle.std.specs.Prelude.{ℕ, ◌-◌, ◌≤◌, ◌≡◌, Bool, cond, ◌||◌, List, [], ◌∷◌, ◌++◌, ltb, eqb, length, get_or, take, drop, replicate, Some, None, IfSome, is_some, unwrap_or, Result as Answer, Ok, Err}
 use Rattle.base_lists.specs.Lists.{padded}
 use Rattle.base_refusal.specs.Number.{number_of}
+use Rattle.base_refusal.specs.declared.Refusal.{Refusal}
 use Rattle.base_refusal.specs.declared.Refusal.TheVariants.{Argument, TooLong}
-use Rattle.radio_erp1.specs.Subtelegram.{max_length, addressed, check_of, checked_number, is_addressed, is_valid, sealed_of, status_of}
+use Rattle.radio_erp1.specs.Subtelegram.{max_length, addressed, check_of, is_addressed, is_valid, sealed_of, status_of}
 use Rattle.radio_telegram.specs.declared.fields.Telegram.{Telegram}
-use Rattle.radio_telegram.specs.declared.fields.Reading.{Reading}
 use Rattle.radio_telegram.specs.Output.{Result, refused, put_of}
 
 -- the house limit of DATA
@@ -24,8 +24,7 @@ plain_fields s = record {
   rorg = get_or s 0 0;
   payload = padded max_data (between 1 (length s - 6) s);
   len = length s - 7;
-  addressed = false;
-  destid = replicate 4 0;
+  destid = None;
   txid = between (length s - 6) (length s - 2) s;
   status = status_of s;
 }
@@ -36,8 +35,7 @@ addressed_fields s = record {
   rorg = get_or s 1 0;
   payload = padded max_data (between 2 (length s - 10) s);
   len = length s - 12;
-  addressed = true;
-  destid = between (length s - 10) (length s - 6) s;
+  destid = Some (between (length s - 10) (length s - 6) s);
   txid = between (length s - 6) (length s - 2) s;
   status = status_of s;
 }
@@ -46,14 +44,13 @@ addressed_fields s = record {
 unfoldable pub fields_of : List ℕ → Telegram
 fields_of s = cond (is_addressed s) (addressed_fields s) (plain_fields s)
 
--- with a refusal, everything is zero
+-- with a refusal, everything is zero, and there is no DESTID
 abbrev pub no_telegram : Telegram
 no_telegram = record {
   rorg = 0;
   payload = replicate max_data 0;
   len = 0;
-  addressed = false;
-  destid = replicate 4 0;
+  destid = None;
   txid = replicate 4 0;
   status = 0;
 }
@@ -63,8 +60,9 @@ pub record Read : Type 0 where
   pub number : ℕ
   pub telegram : Telegram
 
-abbrev pub shown_reading : Reading → Read
-shown_reading r = record { number = checked_number r.checked; telegram = r.telegram }
+abbrev pub shown_reading : Answer Telegram Refusal → Read
+shown_reading (Ok t) = record { number = 0; telegram = t }
+shown_reading (Err why) = record { number = number_of why; telegram = no_telegram }
 
 -- reading a subtelegram
 unfoldable pub read_of : List ℕ → Read
@@ -72,16 +70,20 @@ read_of s = record { number = check_of s; telegram = cond (is_valid s) (fields_o
 
 -- ---- building
 
+-- DESTID; zeros if there is none
+abbrev pub destid_of : Telegram → List ℕ
+destid_of t = unwrap_or t.destid (replicate 4 0)
+
 -- DATA, without the zeros after it
 abbrev pub data_of : Telegram → List ℕ
 data_of t = take t.len t.payload
 
 -- what comes before DATA; and what comes between DATA and STATUS
 abbrev pub before_data : Telegram → List ℕ
-before_data t = cond t.addressed (addressed ∷ t.rorg ∷ []) (t.rorg ∷ [])
+before_data t = cond (is_some t.destid) (addressed ∷ t.rorg ∷ []) (t.rorg ∷ [])
 
 abbrev pub ids_of : Telegram → List ℕ
-ids_of t = cond t.addressed (t.destid ++ t.txid) t.txid
+ids_of t = unwrap_or t.destid [] ++ t.txid
 
 -- every byte of a telegram: [0xA6,] RORG, DATA, [DESTID,] TXID, STATUS, HASH
 unfoldable pub telegram_bytes : Telegram → List ℕ
@@ -114,17 +116,16 @@ pub record Buildable (t : Telegram) : Type 0 where
 -- the lengths of a telegram's arrays, as its type gives them
 pub record Shaped (t : Telegram) : Type 0 where
   pub payload : length t.payload ≡ max_data
-  pub destid : length t.destid ≡ 4
+  pub destid : IfSome t.destid (λ d. length d ≡ 4)
   pub txid : length t.txid ≡ 4
 
--- a telegram with zeros for all that its bytes do not carry: after its DATA, and for a DESTID that is not present
+-- a telegram with zeros for all that its bytes do not carry, which is what stands after its DATA
 abbrev pub normal_of : Telegram → Telegram
 normal_of t = record {
   rorg = t.rorg;
   payload = padded max_data (data_of t);
   len = t.len;
-  addressed = t.addressed;
-  destid = cond t.addressed t.destid (replicate 4 0);
+  destid = t.destid;
   txid = t.txid;
   status = t.status;
 }

@@ -1,11 +1,10 @@
 -- The answer of a call that writes a subtelegram into a lent output, and the output after it (document 01, "Numbers a
 -- caller sees").
-use Rattle.std.specs.Prelude.{ℕ, cond, List, ◌++◌, ltb, length, take, drop}
+use Rattle.std.specs.Prelude.{ℕ, cond, List, ◌++◌, ltb, length, take, drop, Result as Answer, Ok, Err}
 use Rattle.base_refusal.specs.Number.{number_of}
 use Rattle.base_refusal.specs.declared.Refusal.TheVariants.{TooLong, ShortOutput}
 use Rattle.radio_erp1.specs.Subtelegram.{max_length}
-use Rattle.radio_telegram.specs.declared.frame.Built.{Built}
-use Rattle.radio_telegram.specs.declared.frame.Built.TheVariants.{Done, Refused}
+use Rattle.base_refusal.specs.declared.Refusal.{Refusal}
 
 -- the number, the length written, and every byte of the output after the call
 pub record Result : Type 0 where
@@ -14,9 +13,9 @@ pub record Result : Type 0 where
   pub output : List ℕ
 
 -- the result of an answer; with a refusal the length is 0
-abbrev pub result_of : Built → List ℕ → Result
-result_of (Done n) output = record { number = 0; len = n; output = output }
-result_of (Refused why) output = record { number = number_of why; len = 0; output = output }
+abbrev pub result_of : Answer ℕ Refusal → List ℕ → Result
+result_of (Ok n) output = record { number = 0; len = n; output = output }
+result_of (Err why) output = record { number = number_of why; len = 0; output = output }
 
 -- a refusal: the output is unchanged
 abbrev pub refused : ℕ → List ℕ → Result

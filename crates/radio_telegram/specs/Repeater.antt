@@ -1,13 +1,13 @@
 -- The repeater step (document 01, "Repeater step"; 001, Table 5).
-use Rattle.std.specs.Prelude.{ℕ, ◌+◌, ◌≡◌, Bool, true, cond, not, ◌&&◌, ◌||◌, List, [], ◌∷◌, ◌++◌, leb, ltb, eqb, length}
+use Rattle.std.specs.Prelude.{ℕ, ◌+◌, ◌≡◌, Bool, true, cond, not, ◌&&◌, ◌||◌, List, [], ◌∷◌, ◌++◌, leb, ltb, eqb, length, Result, Ok, Err}
 use Rattle.base_refusal.specs.Number.{number_of}
+use Rattle.base_refusal.specs.declared.Refusal.{Refusal}
 use Rattle.base_refusal.specs.declared.Refusal.TheVariants.{Argument}
 use Rattle.radio_erp1.specs.declared.status.Status.{Status}
 use Rattle.radio_erp1.specs.Status.{split_of, join_of}
-use Rattle.radio_erp1.specs.Subtelegram.{check_of, checked_number, is_length_wrong, is_valid, sealed_of, status_of, before_status}
+use Rattle.radio_erp1.specs.Subtelegram.{check_of, is_length_wrong, is_valid, sealed_of, status_of, before_status}
 use Rattle.radio_erp1.specs.Same.{is_same}
 use Rattle.radio_telegram.specs.declared.frame.Frame.{Frame}
-use Rattle.radio_telegram.specs.declared.repeater.Repeated.{Repeated}
 use Rattle.radio_telegram.specs.Frame.{frame_of}
 
 -- the level of a subtelegram: the low four bits of STATUS
@@ -45,12 +45,13 @@ pub record RepeatResult : Type 0 where
   pub number : ℕ
   pub sent : Frame
 
-abbrev pub repeated_of : Repeated → RepeatResult
-repeated_of r = record { number = checked_number r.answer; sent = r.sent }
-
 -- a refusal: nothing is sent
 abbrev pub not_repeated : ℕ → RepeatResult
 not_repeated number = record { number = number; sent = frame_of [] }
+
+abbrev pub repeated_of : Result Frame Refusal → RepeatResult
+repeated_of (Ok f) = record { number = 0; sent = f }
+repeated_of (Err why) = not_repeated (number_of why)
 
 -- "Refusals: the second call gives 10, then the check's"; else "what to send, if anything"
 unfoldable pub repeat_result : ℕ → List ℕ → RepeatResult

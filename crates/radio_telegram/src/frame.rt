@@ -7,17 +7,11 @@ ghost use Rattle.radio_telegram.specs.Output.{result_of, put_of};
 
 use base_refusal::Refusal;
 
+// Kept (buffer): no heap, and C lends its 22 bytes.
 #[derive(Clone, Copy)]
 pub struct Frame {
     pub len: usize,
     pub bytes: [u8; radio_erp1::MAX_LEN],
-}
-
-// The answer of writing a subtelegram into a lent output: its length, or why nothing was written.
-#[derive(Clone, Copy)]
-pub enum Built {
-    Done(usize),
-    Refused(Refusal),
 }
 
 impl Frame {
@@ -36,12 +30,11 @@ impl Frame {
         requires { self.len < max_length }
         ensures { Extended self result (b ∷ []) }
     {
-        let at = self.len;
         let mut bytes = self.bytes;
-        bytes[at] = b;
+        bytes[self.len] = b;
         Frame {
-            len: at + 1,
-            bytes: bytes,
+            len: self.len + 1,
+            bytes,
         }
     }
 
@@ -50,12 +43,11 @@ impl Frame {
         requires { self.len + length src.now ≤ max_length }
         ensures { Extended self result src.now }
     {
-        let at = self.len;
         let mut bytes = self.bytes;
-        let n = base_bytes::copy(src, &mut bytes[at..]);
+        let n = base_bytes::copy(src, &mut bytes[self.len..]);
         Frame {
-            len: at + n,
-            bytes: bytes,
+            len: self.len + n,
+            bytes,
         }
     }
 
@@ -64,23 +56,18 @@ impl Frame {
         requires { self.len < max_length }
         ensures { (xs : List ℕ) → self ≡ frame_of xs → result ≡ frame_of (sealed_of xs) }
     {
-        let n = self.len;
-        let bytes = self.bytes;
-        let h = radio_erp1::hash(&bytes[..n]);
-        self.push(h)
+        self.push(radio_erp1::hash(&self.bytes[..self.len]))
     }
 }
 
 // Copies a frame to the front of `out`, which may be too short for it.
-pub(crate) fn emit(f: Frame, out: &mut [u8]) -> Built
+pub(crate) fn emit(f: Frame, out: &mut [u8]) -> Result<usize, Refusal>
     requires { f.len ≤ max_length }
     ensures { (xs : List ℕ) → f ≡ frame_of xs → result_of result out.new ≡ put_of xs out.old }
 {
-    let n = f.len;
-    let bytes = f.bytes;
-    if out.len() < n {
-        return Built::Refused(Refusal::ShortOutput);
+    if out.len() < f.len {
+        return Err(Refusal::ShortOutput);
     }
-    base_bytes::copy(&bytes[..n], out);
-    Built::Done(n)
+    base_bytes::copy(&f.bytes[..f.len], out);
+    Ok(f.len)
 }

@@ -1,67 +1,40 @@
 // The repeater step (document 01, "Repeater step"): the telegram to send, with its level raised by one and HASH renewed.
 ghost use Rattle.std.specs.Prelude.{◌≡◌, ◌≤◌, ◌<◌, length};
-ghost use Rattle.base_refusal.specs.Number.{number_of};
 ghost use Rattle.radio_erp1.specs.Status.{split_of, join_of};
 ghost use Rattle.radio_erp1.specs.Subtelegram.{min_length};
 ghost use Rattle.radio_telegram.specs.Output.{written};
-ghost use Rattle.radio_telegram.specs.Repeater.{repeats as repeating, raise, raised_of, relay_of, repeated_of, not_repeated, repeat_result};
+ghost use Rattle.radio_telegram.specs.Repeater.{repeats as repeating, raise, raised_of, relay_of, repeated_of, repeat_result};
 
 use crate::frame::Frame;
 use base_refusal::Refusal;
+use radio_erp1::status;
 use radio_erp1::status::Status;
-use radio_erp1::{Checked, status};
 
 // The highest setting: 0 is off, 1 repeats level 0, and 2 repeats levels 0 and 1.
 pub const MAX_SETTING: u8 = 2;
 
-// Whether a telegram was accepted, and what is sent for it: filled with zeros; length 0 if nothing is sent.
-#[derive(Clone, Copy)]
-pub struct Repeated {
-    pub answer: Checked,
-    pub sent: Frame,
-}
-
-// What a repeater set to `setting` sends for a valid telegram, if anything. Refused: 10, then the check's number; then nothing is sent.
-pub fn repeat(setting: u8, bytes: &[u8]) -> Repeated
+// What a repeater set to `setting` sends for a valid telegram: filled with zeros; length 0 if nothing is sent. Refused: 10, then the check's number.
+pub fn repeat(setting: u8, bytes: &[u8]) -> Result<Frame, Refusal>
     ensures { repeated_of result ≡ repeat_result setting bytes.now }
 {
     if MAX_SETTING < setting {
-        return refused(Refusal::Argument);
+        return Err(Refusal::Argument);
     }
-    let checked = radio_erp1::check(bytes);
-    match checked {
-        Checked::Refused(why) => refused(why),
-        Checked::Valid => {
-            let mut out = [0u8; radio_erp1::MAX_LEN];
-            let n = relay(setting, bytes, &mut out);
-            Repeated {
-                answer: Checked::Valid,
-                sent: Frame { len: n, bytes: out },
-            }
-        }
-    }
-}
-
-fn refused(why: Refusal) -> Repeated
-    ensures { repeated_of result ≡ not_repeated (number_of why) }
-{
-    Repeated {
-        answer: Checked::Refused(why),
-        sent: Frame::empty(),
-    }
+    radio_erp1::check(bytes)?;
+    let mut out = [0u8; radio_erp1::MAX_LEN];
+    let n = relay(setting, bytes, &mut out);
+    Ok(Frame { len: n, bytes: out })
 }
 
 // Writes what is sent, for bytes that are not checked, to the front of `out`, and returns how many bytes it is: 0 if they do not have the length of a
 // subtelegram, or are not repeated.
+// Kept (code): length 0 for "nothing is sent" is what document 01 says, and the clause `relay_of` is of that length.
 pub fn relay(setting: u8, bytes: &[u8], out: &mut [u8; radio_erp1::MAX_LEN]) -> usize
     ensures { record { number = 0; len = result; output = out.new }
         ≡ written (relay_of setting bytes.now) out.old }
 {
     let n = bytes.len();
-    if n < radio_erp1::MIN_LEN {
-        return 0;
-    }
-    if radio_erp1::MAX_LEN < n {
+    if n < radio_erp1::MIN_LEN || radio_erp1::MAX_LEN < n {
         return 0;
     }
     let received = status::split(bytes[n - 2]);
@@ -98,7 +71,6 @@ fn raised_status(status: u8) -> u8
     let parts = status::split(status);
     status::join(Status {
         level: parts.level + 1,
-        flags: parts.flags,
-        crc: parts.crc,
+        ..parts
     })
 }

@@ -1,6 +1,6 @@
 // Reports for C and Rust, on plain numbers and bytes: for the benchmark.
-use archive_file::ArchiveOutcome;
-use archive_report::{Added, Adding, Report};
+use archive_file::ArchiveError;
+use archive_report::{Adding, Report};
 
 // Adds an archive to an empty report. The number of the answer is in the highest byte, then the lines in two bytes, then the rows.
 #[unsafe(no_mangle)]
@@ -12,20 +12,17 @@ pub extern "C" fn report_bench_add(buffer: &[u8]) -> u64 {
 #[unsafe(no_mangle)]
 pub extern "C" fn report_bench_pieces(buffer: &[u8]) -> u64 {
     let half = buffer.len() / 1024 * 512;
-    let first = Adding::start(Report::empty()).feed(&buffer[0..half]);
-    let between = first.next;
-    let second = between.feed(&buffer[half..buffer.len()]);
-    let last = second.next;
+    let start = Adding::start(Report::empty());
+    let between = start.feed(&buffer[0..half]).unwrap_or(start);
+    let last = between.feed(&buffer[half..buffer.len()]).unwrap_or(between);
     packed_of(last.end())
 }
 
-fn packed_of(r: Added) -> u64 {
-    let answer = r.answer;
-    let next = r.next;
+fn packed_of(answer: Result<Report, ArchiveError>) -> u64 {
     match answer {
-        ArchiveOutcome::Done => packed(0, next.count, next.kept, next.loose),
-        ArchiveOutcome::Damaged(_) => packed(12, 0, 0, 0),
-        ArchiveOutcome::Refused(why) => packed(base_refusal::number(why), 0, 0, 0),
+        Ok(next) => packed(0, next.count, next.kept, next.loose),
+        Err(ArchiveError::Damaged(_)) => packed(12, 0, 0, 0),
+        Err(ArchiveError::Refused(why)) => packed(base_refusal::number(why), 0, 0, 0),
     }
 }
 

@@ -2,12 +2,10 @@
 // of the second program, which lists all plans.
 #![tactic(auto)]
 
-ghost use Rattle.std.specs.Prelude.{◌≤◌};
-
-use plan_slots::{Planned, SlotPlan};
+use plan_slots::SlotPlan;
 use std::io;
 use std::io::{BufWriter, Write};
-use test_io::{field, last_field, one_if};
+use test_io::{field, last_field};
 
 // The durations that are tried, in microseconds: near the longest that have a plan, and near multiples of a slot.
 const DURATIONS: [u32; 39] = [
@@ -50,9 +48,8 @@ fn run<W: Write>(to: &mut W) -> io::Result<()> {
 
 // A rule at a level with a number of transmissions, for every duration.
 fn durations<W: Write>(to: &mut W, rule: u8, level: u8, number: u8) -> io::Result<()> {
-    let all = DURATIONS;
-    for i in 0..39 {
-        at(to, rule, level, number, all[i])?;
+    for duration in DURATIONS {
+        at(to, rule, level, number, duration)?;
     }
     Ok(())
 }
@@ -61,9 +58,8 @@ fn durations<W: Write>(to: &mut W, rule: u8, level: u8, number: u8) -> io::Resul
 fn at<W: Write>(to: &mut W, rule: u8, level: u8, number: u8, duration: u32) -> io::Result<()> {
     asked(to, rule, level, number, duration)?;
     last_field(to, count(rule, level, number, duration))?;
-    let all = DRAWS;
-    for i in 0..9 {
-        drawn(to, rule, level, number, duration, all[i])?;
+    for draw in DRAWS {
+        drawn(to, rule, level, number, duration, draw)?;
     }
     Ok(())
 }
@@ -97,18 +93,13 @@ fn refused<W: Write>(to: &mut W) -> io::Result<()> {
 
 // How many plans with slots 0 to 39 are lawful; the third is 255 if two transmissions are requested.
 fn count(rule: u8, level: u8, number: u8, duration: u32) -> u64 {
-    let tried = candidates(number);
-    let mut n: u64 = 0;
-    for i in 0..tried {
-        n += one_if(plan_rules::is_lawful_by(rule, level, duration, candidate(number, i)));
-    }
-    n
+    (0..candidates(number))
+        .filter(|i| plan_rules::is_lawful_by(rule, level, duration, candidate(number, *i)))
+        .count() as u64
 }
 
 // How many plans there are to try.
-fn candidates(number: u8) -> u32
-    ensures { result ≤ 64_000 }
-{
+fn candidates(number: u8) -> u32 {
     if number == 2 { 1600 } else { 64_000 }
 }
 
@@ -140,8 +131,8 @@ fn drawn<W: Write>(
     asked(to, rule, level, number, duration)?;
     field(to, draw)?;
     match plan_rules::plan_by(rule, level, number, duration, draw) {
-        Planned::Slots(p) => answer(to, 0, p),
-        Planned::Refused(e) => {
+        Ok(p) => answer(to, 0, p),
+        Err(e) => {
             let none = SlotPlan {
                 first: 0,
                 second: 0,

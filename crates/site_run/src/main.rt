@@ -2,9 +2,7 @@
 // (tests/reference/README.md has the format).
 #![tactic(auto)]
 
-ghost use Rattle.std.specs.Prelude.{◌≤◌};
-
-use plan_site::Verdict;
+use plan_site::Rejection;
 use std::io;
 use std::io::{BufWriter, Read, Write};
 use test_io::{LONG, field, last_field};
@@ -38,26 +36,19 @@ fn record<R: Read, W: Write>(input: &mut R, to: &mut W) -> io::Result<bool> {
 // Checks the repeaters of the record. If the count is over 33, it checks the first 33, which are refused in the same way.
 fn answer<W: Write>(to: &mut W, r: &[u8; LONG]) -> io::Result<()> {
     let whole = &r[..];
-    let count = smaller(whole[0] as usize, plan_site::MAX_REPEATERS + 1);
+    let count = (whole[0] as usize).min(plan_site::MAX_REPEATERS + 1);
     show(
         to,
         plan_site::check_bytes(&whole[8..8 + plan_site::SIZE * count]),
     )
 }
 
-fn smaller(x: usize, y: usize) -> usize
-    ensures first { result ≤ x }
-    ensures second { result ≤ y }
-{
-    if x < y { x } else { y }
-}
-
-fn show<W: Write>(to: &mut W, verdict: Verdict) -> io::Result<()> {
+fn show<W: Write>(to: &mut W, verdict: Result<(), Rejection>) -> io::Result<()> {
     match verdict {
-        Verdict::Accepted => line(to, 0, 0, 0),
-        Verdict::OutOfRange => line(to, 10, 0, 0),
-        Verdict::Unlawful(i) => line(to, 18, i, 0),
-        Verdict::Overlap(i, j) => line(to, 19, i, j),
+        Ok(()) => line(to, 0, 0, 0),
+        Err(Rejection::OutOfRange) => line(to, 10, 0, 0),
+        Err(Rejection::Unlawful(i)) => line(to, 18, i, 0),
+        Err(Rejection::Overlap(i, j)) => line(to, 19, i, j),
     }
 }
 

@@ -2,10 +2,27 @@
 // which lists all plans.
 #![tactic(auto)]
 
-use plan_slots::{Planned, Rule, SlotPlan};
+use plan_slots::{Rule, SlotPlan};
 use std::io;
 use std::io::{BufWriter, Write};
-use test_io::{field, last_field, one_if};
+use test_io::{field, last_field};
+
+// The durations that are tried, in microseconds: these, every multiple of 250 from 3,000 to 21,000, and those of LONG.
+const SHORT: [u32; 8] = [1, 2, 999, 1000, 1001, 1999, 2000, 2001];
+
+const LONG: [u32; 9] = [
+    8999, 9001, 14_999, 15_001, 19_999, 20_001, 20_002, 40_000, 65_535,
+];
+
+const DRAWS: [u64; 7] = [
+    0,
+    1,
+    2,
+    3,
+    7,
+    12_345_678_901_234_567_890,
+    18_446_744_073_709_551_615,
+];
 
 fn main(rt: HostRuntime) -> io::Result<()> {
     let mut to = BufWriter::new(rt.alloc(), io::writer(&rt))?;
@@ -24,30 +41,14 @@ fn run<W: Write>(to: &mut W) -> io::Result<()> {
 }
 
 fn durations<W: Write>(to: &mut W, level: u8) -> io::Result<()> {
-    at(to, level, 1)?;
-    at(to, level, 2)?;
-    at(to, level, 999)?;
-    at(to, level, 1000)?;
-    at(to, level, 1001)?;
-    at(to, level, 1999)?;
-    at(to, level, 2000)?;
-    at(to, level, 2001)?;
-    multiples(to, level)?;
-    at(to, level, 8999)?;
-    at(to, level, 9001)?;
-    at(to, level, 14_999)?;
-    at(to, level, 15_001)?;
-    at(to, level, 19_999)?;
-    at(to, level, 20_001)?;
-    at(to, level, 20_002)?;
-    at(to, level, 40_000)?;
-    at(to, level, 65_535)
-}
-
-// Every multiple of 250 from 3,000 to 21,000.
-fn multiples<W: Write>(to: &mut W, level: u8) -> io::Result<()> {
+    for duration in SHORT {
+        at(to, level, duration)?;
+    }
     for i in 12..85 {
         at(to, level, 250 * i)?;
+    }
+    for duration in LONG {
+        at(to, level, duration)?;
     }
     Ok(())
 }
@@ -57,13 +58,10 @@ fn at<W: Write>(to: &mut W, level: u8, duration: u32) -> io::Result<()> {
     field(to, level as u64)?;
     field(to, duration as u64)?;
     last_field(to, count(level, duration))?;
-    drawn(to, level, duration, 0)?;
-    drawn(to, level, duration, 1)?;
-    drawn(to, level, duration, 2)?;
-    drawn(to, level, duration, 3)?;
-    drawn(to, level, duration, 7)?;
-    drawn(to, level, duration, 12_345_678_901_234_567_890)?;
-    drawn(to, level, duration, 18_446_744_073_709_551_615)
+    for draw in DRAWS {
+        drawn(to, level, duration, draw)?;
+    }
+    Ok(())
 }
 
 // How many of the plans with slots 0 to 39 are lawful; the third may also be 255.
@@ -73,15 +71,13 @@ fn count(level: u8, duration: u32) -> u64 {
     }
     let ranges = plan_slots::RANGES[level as usize];
     let rule = Rule {
-        ranges: ranges,
+        ranges,
         pause: 0,
         end: plan_slots::LAST_END,
     };
-    let mut n: u64 = 0;
-    for i in 0..65_600 {
-        n += one_if(plan_slots::is_lawful(rule, duration, candidate(i)));
-    }
-    n
+    (0..65_600)
+        .filter(|i| plan_slots::is_lawful(rule, duration, candidate(*i)))
+        .count() as u64
 }
 
 // The i-th of 40 x 40 x 41 plans.
@@ -100,8 +96,8 @@ fn drawn<W: Write>(to: &mut W, level: u8, duration: u32, draw: u64) -> io::Resul
     field(to, duration as u64)?;
     field(to, draw)?;
     match plan_slots::plan(level, duration, draw) {
-        Planned::Slots(p) => answer(to, 0, p),
-        Planned::Refused(e) => {
+        Ok(p) => answer(to, 0, p),
+        Err(e) => {
             let none = SlotPlan {
                 first: 0,
                 second: 0,

@@ -1,8 +1,9 @@
 // Takes receptions one after the other, for the benchmark.
 ghost use Rattle.std.specs.Prelude.{◌≡◌, ◌*◌, ◌≤◌, length};
+ghost use Rattle.collector_state.specs.Collector.{SameArrays};
 
 use collector_model::Answer;
-use collector_state::{Collector, acceptable, merging};
+use collector_state::{Collector, Lent, acceptable};
 
 const CELL: usize = 32;
 
@@ -29,7 +30,7 @@ pub extern "C" fn bench_test(cells: &[u8], rounds: u64) -> u64 {
         let mut summary = c.summary;
         summary.count = fewer(summary.count, i % 2);
         if acceptable::is_acceptable(&c.times, &c.lens, &c.bytes, summary) {
-            passed = std::num::wrapping_add_u64(passed, 1);
+            passed = passed.wrapping_add(1);
         }
     }
     passed
@@ -38,31 +39,25 @@ pub extern "C" fn bench_test(cells: &[u8], rounds: u64) -> u64 {
 // Takes the same receptions, with arrays that are changed in place. A fresh state is acceptable, and so is every next one, so none is tested.
 #[unsafe(no_mangle)]
 pub extern "C" fn bench_admit(cells: &[u8]) -> u64 {
-    let c = Collector::fresh();
-    let mut times = c.times;
-    let mut lens = c.lens;
-    let mut entries = c.bytes;
-    let mut copies = c.copies;
-    let mut summary = c.summary;
+    let mut c = Collector::fresh();
+    let mut state = Lent {
+        times: &mut c.times,
+        lens: &mut c.lens,
+        bytes: &mut c.bytes,
+        copies: &mut c.copies,
+        summary: c.summary,
+    };
+    admitted_all(&mut state, cells)
+}
+
+fn admitted_all(state: &mut Lent, cells: &[u8]) -> u64
+    ensures same_loans { SameArrays state.old state.new }
+{
     let mut figure: u64 = 0;
     for i in 0..cells.len() / CELL {
         let cell = &cells[CELL * i..CELL * i + CELL];
-        let bytes = received(cell);
-        let time = block_layout::cell_time(cell);
-        let done = merging::admit(
-            true,
-            &mut times,
-            &mut lens,
-            &mut entries,
-            &mut copies,
-            summary,
-            bytes,
-            time,
-        );
-        let next = done.summary;
-        let answer = done.answer;
-        summary = next;
-        figure = std::num::wrapping_add_u64(figure, weight(answer));
+        let answer = state.admit(true, received(cell), block_layout::cell_time(cell));
+        figure = figure.wrapping_add(weight(answer));
     }
     figure
 }
@@ -72,25 +67,21 @@ fn taken_all(cells: &[u8]) -> Run {
     let mut figure: u64 = 0;
     for i in 0..cells.len() / CELL {
         let taken = take_cell(c, &cells[CELL * i..CELL * i + CELL]);
-        let answer = taken.answer;
-        figure = std::num::wrapping_add_u64(figure, weight(answer));
-        let next = taken.next;
-        c = next;
+        figure = figure.wrapping_add(weight(taken.answer));
+        c = taken.next;
     }
     Run {
         collector: c,
-        figure: figure,
+        figure,
     }
 }
 
 fn fewer(count: usize, less: u64) -> usize {
     if less == 0 {
-        return count;
+        count
+    } else {
+        count.saturating_sub(1)
     }
-    if count == 0 {
-        return 0;
-    }
-    count - 1
 }
 
 fn take_cell(c: Collector, cell: &[u8]) -> collector_state::Taken
@@ -104,7 +95,7 @@ fn take_cell(c: Collector, cell: &[u8]) -> collector_state::Taken
 fn received(cell: &[u8]) -> &[u8]
     requires { length cell.now ≡ 32 }
 {
-    let n = least(base_numbers::usize_of_byte(cell[8]));
+    let n = usize::from(cell[8]).min(Collector::MAX_LEN);
     &cell[9..9 + n]
 }
 
@@ -115,10 +106,4 @@ fn weight(answer: Answer) -> u64 {
         Answer::Loose => 281_474_976_710_656,
         Answer::Refused(_) => 0,
     }
-}
-
-fn least(n: usize) -> usize
-    ensures { result ≤ 21 }
-{
-    if n < 21 { n } else { 21 }
 }

@@ -7,6 +7,8 @@ use std::io;
 use std::io::{ErrorKind, Read, Write};
 
 // A record: 64 bytes, a line of 128 upper-case hexadecimal digits in the input. `more` is false after the last one.
+// Kept (buffer): no heap.
+// Kept (code): the programs do what they did on every input, and `history_run` takes the bytes of a line that is cut short, too.
 #[derive(Clone, Copy)]
 pub struct Record {
     pub more: bool,
@@ -90,7 +92,7 @@ pub fn last_field<W: Write>(to: &mut W, n: u64) -> io::Result<()> {
 pub fn one_if(passes: bool) -> u64
     ensures { result ≤ 1 }
 {
-    if passes { 1 } else { 0 }
+    u64::from(passes)
 }
 
 // Prints bytes in upper-case hexadecimal digits, or `-` if there are none.
@@ -113,8 +115,8 @@ pub fn byte<W: Write>(to: &mut W, b: u8) -> io::Result<()> {
 fn decode(line: &[u8], bytes: &mut [u8])
     requires { 2 * length bytes.old ≤ length line.now }
 {
-    for i in 0..bytes.len() {
-        bytes[i] = pair(line[2 * i], line[2 * i + 1]);
+    for (i, b) in bytes.iter_mut().enumerate() {
+        *b = pair(line[2 * i], line[2 * i + 1]);
     }
 }
 
@@ -128,8 +130,8 @@ fn nibble(c: u8) -> u8
     ensures { result < 16 }
 {
     match c {
-        48..=57 => c - 48,
-        65..=70 => c - 55,
+        b'0'..=b'9' => c - b'0',
+        b'A'..=b'F' => c - b'A' + 10,
         _ => 0,
     }
 }
@@ -138,8 +140,5 @@ fn nibble(c: u8) -> u8
 fn digit(n: u8) -> u8
     requires { n < 16 }
 {
-    if n < 10 {
-        return 48 + n;
-    }
-    55 + n
+    if n < 10 { b'0' + n } else { b'A' + n - 10 }
 }

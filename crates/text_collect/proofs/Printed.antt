@@ -1,5 +1,6 @@
 -- What `collect` prints is the reference model's: a line takes the model's view to its view after one more reception (`same_step`), and the time
 -- of a line is a number of 64 bits, so that no view is left that the model's theorem does not speak of.
+use Rattle.std.specs.Prelude.{Option, Some, None}
 use Prim.Native.Nat.{ℕ, ◌^◌, ◌<◌}
 use mathlib.Core.Path.{◌≡◌, refl, sym, ap, ap₂, ◌∙◌}
 use mathlib.Core.Bool.{true, not, ◌&&◌}
@@ -16,7 +17,6 @@ use Rattle.collector_model.specs.Reference.{totals_of, model_view, answer_to, lo
 use Rattle.collector_model.proofs.Invariant.{Good, good_fresh}
 use Rattle.collector_model.proofs.Simulation.{same_sent, same_step, good_after}
 use Rattle.collector_model.proofs.Theorem.{fresh-model}
-use Rattle.text_lines.specs.declared.Setting.{Setting}
 use Rattle.text_lines.specs.Decimal.{is_digit, decimal_of, has_leading_zero, is_number, is_time}
 use Rattle.text_lines.specs.Reading.{Reading, reception, bad, setting_of, line_reading}
 use Rattle.text_lines.proofs.Whole.{said}
@@ -106,14 +106,14 @@ unfolding text_of state_after
 over_silent [] = refl
 over_silent (l ∷ ls) = over_silent ls
 
-first_line : (s : Setting) (ls : List (List ℕ))
+first_line : (s : (Option ℕ)) (ls : List (List ℕ))
     → (first_text model_collector s ++ text_of (collect model_collector) (after_first model_collector s) ls)
     ++ phase_end model_collector (state_after (collect model_collector) (after_first model_collector s) ls)
     ≡ printed_with s ls
-first_line (Setting.Level n) ls =
+first_line (Some n) ls =
     ap (λ (v : View). written_from (running (record { setting = n; view = v })) ls) fresh-model
     ∙ rows n ls [] (rw fresh-model at good_fresh)
-first_line Setting.Bad ls =
+first_line None ls =
     append_assoc bad_text (text_of (collect model_collector) over ls)
     (phase_end model_collector (state_after (collect model_collector) over ls))
     ∙ ap (λ (x : List ℕ). bad_text ++ x) (over_silent ls)

@@ -1,5 +1,6 @@
 -- What a run prints in a format is the reference model's: a line takes the model's view to its view after one more
 -- reception.
+use Rattle.std.specs.Prelude.{Option, Some, None}
 use Prim.Native.Nat.{ℕ}
 use mathlib.Core.Path.{◌≡◌, refl, sym, ap, ap₂, ◌∙◌}
 use mathlib.Core.List.{List, [], ◌∷◌, ◌++◌, append_assoc, append-nil}
@@ -11,7 +12,6 @@ use Rattle.collector_model.specs.Reference.{totals_of, model_view, answer_to, lo
 use Rattle.collector_model.proofs.Invariant.{Good, good_fresh}
 use Rattle.collector_model.proofs.Simulation.{same_sent, same_step, good_after}
 use Rattle.collector_model.proofs.Theorem.{fresh-model}
-use Rattle.text_lines.specs.declared.Setting.{Setting}
 use Rattle.text_lines.specs.Reading.{line_limit, Reading, reception, bad, setting_of, line_reading}
 use Rattle.text_rows.specs.declared.formats.Format.{Format}
 use Rattle.text_rows.specs.Text.{decimal_text}
@@ -97,16 +97,16 @@ module _ (f : Format) where
   over_silent [] = refl
   over_silent (l ∷ ls) = over_silent ls
 
-  first_line : (s : Setting) (ls : List (List ℕ))
+  first_line : (s : (Option ℕ)) (ls : List (List ℕ))
       → (first_line_in f s ++ text_of (collect_in f) (after_first model_collector s) ls)
       ++ end_in f (state_after (collect_in f) (after_first model_collector s) ls)
       ≡ printed_with_in f s ls
-  first_line (Setting.Level n) ls =
-      append_assoc (heading_in f) (text_of (collect_in f) (after_first model_collector (Setting.Level n)) ls)
-      (end_in f (state_after (collect_in f) (after_first model_collector (Setting.Level n)) ls))
+  first_line (Some n) ls =
+      append_assoc (heading_in f) (text_of (collect_in f) (after_first model_collector (Some n)) ls)
+      (end_in f (state_after (collect_in f) (after_first model_collector (Some n)) ls))
       ∙ ap (λ (v : View). heading_in f ++ written_from (running (record { setting = n; view = v })) ls) fresh-model
       ∙ ap (λ (x : List ℕ). heading_in f ++ x) (rows n ls [] (rw fresh-model at good_fresh))
-  first_line Setting.Bad ls =
+  first_line None ls =
       append_assoc (bad_in f) (text_of (collect_in f) over ls) (end_in f (state_after (collect_in f) over ls))
       ∙ ap (λ (x : List ℕ). bad_in f ++ x) (over_silent ls)
       ∙ append-nil (bad_in f)
@@ -135,12 +135,12 @@ text-rows setting past [] = refl
 text-rows setting past (l ∷ ls) =
     ap₂ ◌∷◌ (text-row setting past (line_reading l)) (text-rows setting (past_after_line past (line_reading l)) ls)
 
-text_with : (s : Setting) (ls : List (List ℕ)) → printed_with_in Format.Text s ls ≡ printed_with s ls
+text_with : (s : (Option ℕ)) (ls : List (List ℕ)) → printed_with_in Format.Text s ls ≡ printed_with s ls
 unfolding heading_in bad_in
-text_with (Setting.Level n) ls =
+text_with (Some n) ls =
     ap (λ (rows : List (List ℕ)). joined rows ++ totals_line (totals_of (log_of (past_after_lines [] ls))))
     (text-rows n [] ls)
-text_with Setting.Bad ls = refl
+text_with None ls = refl
 
 text_for : (ls : List (List ℕ)) → printed_for_in Format.Text ls ≡ printed_for ls
 unfolding bad_in

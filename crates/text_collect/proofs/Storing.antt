@@ -1,6 +1,6 @@
 -- The row of a reception in the arrays of an archive's rows, and the two programs that say all of them.
+use Rattle.std.specs.Prelude.{Option, Some}
 use mathlib.Core.Path.{◌≡◌, refl, sym, ap, ◌∙◌}
-use mathlib.Core.Bool.{true, false≢true}
 use mathlib.Core.List.{List, [], ◌∷◌}
 use Prim.Native.Nat.{ℕ, zero, suc, ◌+◌, ◌-◌, ◌*◌, ◌<◌, ◌≤◌}
 use native.Mathlib.Omega.{arith}
@@ -16,6 +16,7 @@ use Rattle.collector_model.specs.Step.{StepOutcome, sent_for}
 use Rattle.base_buffers.specs.Printed.{Printed}
 use Rattle.text_lines.specs.Ascii.{newline}
 use Rattle.text_lines.specs.Reading.{line_limit, line_reading, reception, bad, front_of, line_of, bytes_in}
+use Rattle.text_lines.specs.declared.Heard.{Heard}
 use Rattle.text_lines.specs.declared.Line.{Line}
 use Rattle.text_lines.proofs.Starts.{by_cases}
 use Rattle.text_lines.specs.Private.{CopiedPart}
@@ -170,16 +171,18 @@ module _ (c : Receiver) (l : List ℕ) where
     said-records = rw (e, k)
 
 -- what `parse` writes is zero filled
-pub said-padded : (text : List ℕ) {bytes : List ℕ} {r : Line}
-    → (r ≡ line_of (front_of text)) × (bytes ≡ bytes_in (front_of text)) → r.ok ≡ true
-    → bytes ≡ padded 64 (take r.len bytes)
-said-padded text e f =
-    rw (e.0, e.1)
-    (by_cases text (λ x. (line_of x).ok ≡ true → bytes_in x ≡ padded 64 (take (line_of x).len (bytes_in x)))
-    (λ h g. absurd (false≢true g))
-    (λ h q g. absurd (false≢true g))
-    (λ t bs h q g. rw (take-padded 64 bs))
-    (rw e.0 at f))
+pub said-padded : (text : List ℕ) {bytes : List ℕ} {r : Option Line}
+    → (r ≡ line_of (front_of text)) × (bytes ≡ bytes_in (front_of text))
+    → {l : Line} → r ≡ Some l → {w : Heard} → l.heard ≡ Some w → bytes ≡ padded 64 (take w.len bytes)
+said-padded text e {l} some {w} heard =
+    rw e.1
+    (by_cases text (λ x. line_of x ≡ Some l → bytes_in x ≡ padded 64 (take w.len (bytes_in x)))
+    (λ h g. cc)
+    (λ h q g. cc)
+    (λ t bs h q g.
+    let same : length bs ≡ w.len = cc in
+    rw (sym same, take-padded 64 bs))
+    (sym e.0 ∙ some))
 
 -- ---- lines are counted
 

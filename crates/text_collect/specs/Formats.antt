@@ -1,10 +1,9 @@
 -- A run that prints its rows in a format (docs/FORMATS.md, "Text of mooringeye"), over the same lines as `collect`.
-use Rattle.std.specs.Prelude.{ℕ, List, []}
+use Rattle.std.specs.Prelude.{ℕ, cond, List, [], Option, Some, None}
 use Rattle.radio_erp1.specs.Status.{split_of}
 use Rattle.radio_erp1.specs.Subtelegram.{max_length, is_valid}
 use Rattle.radio_telegram.specs.Fields.{read_of}
 use Rattle.collector_model.specs.declared.Totals.{Totals}
-use Rattle.text_lines.specs.declared.Setting.{Setting}
 use Rattle.text_lines.specs.Hex.{max_bytes}
 use Rattle.text_lines.specs.Reading.{Reading, reception, bad, setting_of, line_reading}
 use Rattle.text_rows.specs.declared.formats.Format.{Format}
@@ -17,18 +16,17 @@ use Rattle.text_program.specs.Collect.{Phase, starting, running, over, next_phas
 use Rattle.text_collect.specs.Printed.{totals_line}
 use Rattle.text_collect.specs.Session.{Receiver, model_collector}
 
--- where a telegram came from, as reading answers it (document 01, "Subtelegram"); all zero for a damaged telegram, of
--- which nothing is known
-unfoldable pub source_of : List ℕ → Source
+-- where a telegram came from, as reading answers it (document 01, "Subtelegram"); nothing is known of a damaged one
+unfoldable pub source_of : List ℕ → Option Source
 source_of bytes =
     let t = (read_of bytes).telegram in
-    record { known = is_valid bytes; txid = t.txid; rorg = t.rorg; level = (split_of t.status).level }
+    cond (is_valid bytes) (Some (record { txid = t.txid; rorg = t.rorg; level = (split_of t.status).level })) None
 
 module _ (f : Format) where
   -- the first line: a level gives the heading; any other is BAD and ends the run
-  abbrev pub first_line_in : Setting → List ℕ
-  first_line_in (Setting.Level n) = heading_in f
-  first_line_in Setting.Bad = bad_in f
+  abbrev pub first_line_in : Option ℕ → List ℕ
+  first_line_in (Some n) = heading_in f
+  first_line_in None = bad_in f
 
   -- a later line
   abbrev pub line_in : Receiver → Reading → List ℕ

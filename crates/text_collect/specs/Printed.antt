@@ -1,12 +1,11 @@
 -- What `collect` prints for an input, by the reference model (document 01, "Cases" and "One history, and the clerk who
 -- writes it down"). The setting is that of the run (document 02, A7).
-use Rattle.std.specs.Prelude.{ℕ, List, [], ◌∷◌, ◌++◌, take}
+use Rattle.std.specs.Prelude.{ℕ, List, [], ◌∷◌, ◌++◌, take, Option, Some, None}
 use Rattle.radio_telegram.specs.declared.frame.Frame.{Frame}
 use Rattle.collector_model.specs.declared.Totals.{Totals}
 use Rattle.collector_model.specs.Answer as answer
 use Rattle.collector_model.specs.View.{Reception}
 use Rattle.collector_model.specs.Reference.{totals_of, answer_to, sent_with, log_of}
-use Rattle.text_lines.specs.declared.Setting.{Setting}
 use Rattle.text_lines.specs.Reading.{Reading, reception, bad, setting_of, line_reading}
 use Rattle.text_rows.specs.declared.Row.{Row}
 use Rattle.text_rows.specs.Text.{row_text, bad_text, totals_text}
@@ -63,10 +62,10 @@ past_after_lines past (l ∷ ls) = past_after_lines (past_after_line past (line_
 
 -- "`level N`, then lines of time and hex": a row for each line, and the totals; "a first line .. other than level 0, 1
 -- or 2 prints BAD alone"
-abbrev pub printed_with : Setting → List (List ℕ) → List ℕ
-printed_with (Setting.Level n) ls = joined (row_texts_after n [] ls)
+abbrev pub printed_with : Option ℕ → List (List ℕ) → List ℕ
+printed_with (Some n) ls = joined (row_texts_after n [] ls)
     ++ totals_line (totals_of (log_of (past_after_lines [] ls)))
-printed_with Setting.Bad ls = bad_text
+printed_with None ls = bad_text
 
 -- the same, also if there is no first line
 abbrev pub printed_for : List (List ℕ) → List ℕ

@@ -1,9 +1,8 @@
 -- What a run prints in a format for an input, by the reference model (docs/FORMATS.md, "Text of mooringeye"), and the
 -- claims on it. proofs/PrintedIn.antt proves them.
-use Rattle.std.specs.Prelude.{ℕ, ◌≡◌, List, [], ◌∷◌, ◌++◌}
+use Rattle.std.specs.Prelude.{ℕ, ◌≡◌, List, [], ◌∷◌, ◌++◌, Option, Some, None}
 use Rattle.collector_model.specs.View.{Reception}
 use Rattle.collector_model.specs.Reference.{totals_of, answer_to, sent_with, log_of}
-use Rattle.text_lines.specs.declared.Setting.{Setting}
 use Rattle.text_lines.specs.Reading.{line_limit, Reading, reception, bad, setting_of, line_reading}
 use Rattle.text_rows.specs.declared.formats.Format.{Format}
 use Rattle.text_rows.specs.Text.{decimal_text}
@@ -32,10 +31,10 @@ module _ (f : Format) where
       row_after_in setting past (line_reading l) ∷ rows_after_in setting (past_after_line past (line_reading l)) ls
 
   -- after a right first line: the heading, a row for each line, and the totals if the format has them
-  abbrev pub printed_with_in : Setting → List (List ℕ) → List ℕ
-  printed_with_in (Setting.Level n) ls =
+  abbrev pub printed_with_in : Option ℕ → List (List ℕ) → List ℕ
+  printed_with_in (Some n) ls =
       heading_in f ++ (joined (rows_after_in n [] ls) ++ totals_text_in f (totals_of (log_of (past_after_lines [] ls))))
-  printed_with_in Setting.Bad ls = bad_in f
+  printed_with_in None ls = bad_in f
 
   -- the same, also if there is no first line
   abbrev pub printed_for_in : List (List ℕ) → List ℕ

@@ -1,8 +1,7 @@
 // A run that prints its rows in a format, with the rows for an archive and what closes.
-ghost use Rattle.std.specs.Prelude.{◌≡◌, true, cond, [], ◌+◌, ◌*◌, ◌≤◌, eqb, length};
-ghost use Rattle.radio_erp1.specs.Subtelegram.{checked_number};
+ghost use Rattle.std.specs.Prelude.{◌≡◌, true, cond, [], ◌+◌, ◌*◌, ◌≤◌, length};
 ghost use Rattle.collector_model.specs.Answer.{shown_of};
-ghost use Rattle.collector_state.specs.Collector.{columns, view_in};
+ghost use Rattle.collector_state.specs.Collector.{columns_held, columns_lent, view_in, SameArrays};
 ghost use Rattle.collector_state.specs.Admission.{relayed_for, Tested};
 ghost use Rattle.text_rows.specs.Formats.{row_text_in};
 ghost use Rattle.text_rows.specs.Longest.{longest_number};
@@ -14,8 +13,7 @@ ghost use Rattle.text_collect.specs.Formats.{source_of, longest_line_in};
 ghost use Rattle.text_collect.specs.Heard.{is_asked, has_room, HeardIn};
 
 use collector_model::Answer;
-use collector_state::{Collector, Summary, merging};
-use radio_erp1::Checked;
+use collector_state::{Collector, Held, Lent, merging};
 use radio_telegram::fields;
 use text_rows::formats;
 use text_rows::formats::{Format, Source};
@@ -25,11 +23,10 @@ pub const LONGEST: usize = text_rows::LONGEST_NUMBER
     + formats::LONGEST_ROW
     + 2 * (text_lines::MAX_BYTES + Collector::MAX_LEN);
 
-// The result of a run of lines: the summary of the state, how many bytes of the input were used, how many were written, and the numbers of rows for
+// The result of a run of lines: how many bytes of the input were used, how many were written, and the numbers of rows for
 // an archive, of lines, and of telegrams that they close.
 #[derive(Clone, Copy)]
 pub struct Noted {
-    pub summary: Summary,
     pub used: usize,
     pub written: usize,
     pub rows: usize,
@@ -37,38 +34,31 @@ pub struct Noted {
     pub closings: usize,
 }
 
-// Takes lines as `take_rows` does, and writes their rows in a format. If `closed` is not empty, also writes what they close. It has its own loop: to
-// look up the format for each row would cost the text format 32 instructions a line.
-pub fn take_rows_as<'a>(
+// Takes lines as `take_rows` does, and writes their rows in a format. If `closed` is not empty, also writes what they close.
+// Kept (twin): speed: to look up the format for each row costs the text format 32 instructions a line, so it has a loop of its own.
+// Kept (step): `fit` is what a test said of the state. The answer depends on it, and it chooses no step.
+pub fn take_rows_as(
     fit: bool,
     setting: u8,
     format: Format,
-    times: &'a mut [u64; Collector::CAPACITY],
-    lens: &'a mut [u8; Collector::CAPACITY],
-    entries: &'a mut [u8; Collector::CAPACITY * Collector::MAX_LEN],
-    copies: &'a mut [u16; Collector::CAPACITY],
-    summary: Summary,
-    input: &'a [u8],
+    state: &mut Lent,
+    input: &[u8],
     most: usize,
-    out: &'a mut [u8],
-    moments: &'a mut [u64],
-    rows: &'a mut [u8],
-    closed: &'a mut [u8],
+    out: &mut [u8],
+    moments: &mut [u64],
+    rows: &mut [u8],
+    closed: &mut [u8],
 ) -> Noted
-    requires { Tested fit (view_in (columns times.old lens.old entries.old copies.old) summary)
+    requires { Tested fit (view_in (columns_lent state.old) state.old.summary)
         × (length rows.old ≡ 23 * length moments.old) }
-    ensures { HeardIn format
-        (running_at setting (view_in
-        (columns times.old lens.old entries.old copies.old) summary))
-        (columns times.old lens.old entries.old copies.old)
+    ensures heard { HeardIn format
+        (running_at setting (view_in (columns_lent state.old) state.old.summary)) (columns_lent state.old)
         input.now most out.old moments.old rows.old closed.old
         out.new moments.new rows.new closed.new
-        (running_at setting (view_in
-        (columns times.new lens.new entries.new copies.new) result.summary))
-        (columns times.new lens.new entries.new copies.new)
+        (running_at setting (view_in (columns_lent state.new) state.new.summary)) (columns_lent state.new)
         result.used result.written result.rows result.lines result.closings }
+    ensures same_loans { SameArrays state.old state.new }
 {
-    let mut summary = summary;
     let mut bytes = [0u8; text_lines::MAX_BYTES];
     let mut at = 0;
     let mut to = 0;
@@ -85,46 +75,22 @@ pub fn take_rows_as<'a>(
         if !has_room(closed.len(), k) {
             break;
         }
-        let l = text_lines::parse(&input[at..], &mut bytes);
-        if l.used == 0 {
+        let Some(line) = text_lines::parse(&input[at..], &mut bytes) else {
             break;
-        }
+        };
         let from = at;
-        at += l.used;
+        at += line.used;
         left -= 1;
-        let ok = l.ok;
-        if !ok {
+        let Some(heard) = line.heard else {
             to = formats::put_bad(out, to, format);
             continue;
-        }
+        };
         // After the time come a space, two digits for each byte, and the newline.
-        let len = l.len;
+        let len = heard.len;
         let end = at - (2 * len + 2);
-        k = put_closed(
-            fit,
-            times,
-            lens,
-            entries,
-            copies,
-            summary,
-            &bytes[0..len],
-            l.time,
-            closed,
-            k,
-        );
-        let done = merging::admit(
-            fit,
-            times,
-            lens,
-            entries,
-            copies,
-            summary,
-            &bytes[0..len],
-            l.time,
-        );
-        summary = done.summary;
-        let answer = done.answer;
-        n = crate::store_row(moments, rows, n, answer, l.time, len, &bytes);
+        k = put_closed(fit, state.held(), &bytes[0..len], heard.time, closed, k);
+        let answer = state.admit(fit, &bytes[0..len], heard.time);
+        n = crate::store_row(moments, rows, n, answer, heard.time, len, &bytes);
         to = put_answer(
             out,
             to,
@@ -136,7 +102,6 @@ pub fn take_rows_as<'a>(
         );
     }
     Noted {
-        summary: summary,
         used: at,
         written: to,
         rows: n,
@@ -152,43 +117,24 @@ fn has_room(long: usize, k: usize) -> bool
     if long == 0 {
         return true;
     }
-    if long < collector_closings::LONGEST {
-        return false;
-    }
-    if (long - collector_closings::LONGEST) / collector_closings::LENGTH < k {
-        return false;
-    }
-    true
+    collector_closings::LONGEST <= long
+        && k <= (long - collector_closings::LONGEST) / collector_closings::LENGTH
 }
 
 // Writes what a reception closes, if it is asked for.
-fn put_closed<'a>(
-    fit: bool,
-    times: &'a [u64; Collector::CAPACITY],
-    lens: &'a [u8; Collector::CAPACITY],
-    entries: &'a [u8; Collector::CAPACITY * Collector::MAX_LEN],
-    copies: &'a [u16; Collector::CAPACITY],
-    summary: Summary,
-    bytes: &'a [u8],
-    time: u64,
-    closed: &'a mut [u8],
-    k: usize,
-) -> usize
-    requires { Tested fit (view_in (columns times.now lens.now entries.now copies.now) summary)
-        × (has_room (length closed.old) k ≡ true) }
+fn put_closed(fit: bool, state: Held, bytes: &[u8], time: u64, closed: &mut [u8], k: usize) -> usize
+    requires { Tested fit (view_in (columns_held state) state.summary) × (has_room (length closed.old) k ≡ true) }
     ensures { Printed closed.old (32 * k)
         (cond (is_asked closed.old)
         (closed_cells
-        (view_in (columns times.now lens.now entries.now copies.now) summary)
+        (view_in (columns_held state.entry) state.entry.summary)
         (record { bytes = bytes.entry.now; time = time })) [])
         2048 closed.new (32 * result) }
 {
     if closed.len() == 0 {
         return k;
     }
-    collector_closings::put_closings(
-        fit, times, lens, entries, copies, summary, bytes, time, closed, k,
-    )
+    collector_closings::put_closings(fit, state, bytes, time, closed, k)
 }
 
 // Writes the row of a reception after the text of its time, with what is sent for it at the setting and where it came from.
@@ -223,27 +169,17 @@ fn put_answer(
     )
 }
 
-fn source_of(bytes: &[u8]) -> Source
+fn source_of(bytes: &[u8]) -> Option<Source>
     ensures { result ≡ source_of bytes.now }
 {
-    let reading = fields::read(bytes);
-    let checked = reading.checked;
-    let t = reading.telegram;
+    let Ok(t) = fields::read(bytes) else {
+        return None;
+    };
     let txid = t.txid;
     let status = radio_erp1::status::split(t.status);
-    Source {
-        known: is_valid(checked),
+    Some(Source {
         txid: txid,
         rorg: t.rorg,
         level: status.level,
-    }
-}
-
-fn is_valid(checked: Checked) -> bool
-    ensures { result ≡ eqb (checked_number checked) 0 }
-{
-    match checked {
-        Checked::Valid => true,
-        Checked::Refused(_) => false,
-    }
+    })
 }

@@ -6,7 +6,7 @@ pub mod formats;
 ghost use Rattle.std.specs.Prelude.{◌≡◌, List, [], ◌∷◌, ℕ, ◌+◌, ◌*◌, ◌<◌, ◌≤◌, length, take};
 ghost use Rattle.base_lists.specs.Lists.{padded};
 ghost use Rattle.collector_model.specs.Answer.{shown_of};
-ghost use Rattle.collector_state.specs.Collector.{columns, view_in, view_of};
+ghost use Rattle.collector_state.specs.Collector.{columns_lent, view_in, view_of, SameArrays};
 ghost use Rattle.collector_state.specs.Admission.{relayed_for, Tested};
 ghost use Rattle.text_rows.specs.Text.{row_behind};
 ghost use Rattle.base_buffers.specs.Printed.{Printed, PrintedIfFits};
@@ -18,8 +18,7 @@ ghost use Rattle.text_collect.specs.Rows.{stored_time, stored_record};
 ghost use Rattle.text_collect.specs.Stored.{StoredTo};
 
 use collector_model::Answer;
-use collector_state::{Collector, Summary, acceptable, merging};
-use text_lines::Setting;
+use collector_state::{Collector, Lent, acceptable, merging};
 use text_rows::Row;
 
 // The stage of a run: before its first line, after a right one, or ended by a wrong one.
@@ -46,10 +45,9 @@ pub struct Progress {
     pub written: usize,
 }
 
-// The result of a run of later lines: the summary of the state, how many bytes of the input were used, and how many were written.
+// The result of a run of later lines: how many bytes of the input were used, and how many were written.
 #[derive(Clone, Copy)]
 struct Merged {
-    pub summary: Summary,
     pub used: usize,
     pub written: usize,
 }
@@ -57,7 +55,6 @@ struct Merged {
 // The same with the number of rows for an archive, and of lines.
 #[derive(Clone, Copy)]
 pub struct Stored {
-    pub summary: Summary,
     pub used: usize,
     pub written: usize,
     pub rows: usize,
@@ -149,11 +146,11 @@ fn nothing(s: Session) -> Progress
 }
 
 // A level is the run's setting; any other line ends the run.
-fn begin(setting: Setting) -> Session
+fn begin(setting: Option<u8>) -> Session
     ensures { phase_of result ≡ after_first model_collector setting }
 {
     match setting {
-        Setting::Level(n) => {
+        Some(n) => {
             let c = Collector::fresh();
             Session {
                 stage: Stage::Running,
@@ -161,7 +158,7 @@ fn begin(setting: Setting) -> Session
                 collector: c,
             }
         }
-        Setting::Bad => {
+        None => {
             let c = Collector::fresh();
             Session {
                 stage: Stage::Over,
@@ -172,148 +169,101 @@ fn begin(setting: Setting) -> Session
     }
 }
 
-fn put_first(out: &mut [u8], setting: Setting) -> usize
+fn put_first(out: &mut [u8], setting: Option<u8>) -> usize
     requires { longest_line ≤ length out.old }
     ensures { Printed out.old 0 (first_text model_collector setting) longest_line out.new result }
 {
     match setting {
-        Setting::Level(_) => 0,
-        Setting::Bad => text_rows::put_bad(out, 0),
+        Some(_) => 0,
+        None => text_rows::put_bad(out, 0),
     }
 }
 
 // ---- later lines
 
 // Takes later lines. The state is tested once for all of them.
-fn later_lines(setting: u8, c: Collector, input: &[u8], out: &mut [u8]) -> Progress
+fn later_lines(setting: u8, mut c: Collector, input: &[u8], out: &mut [u8]) -> Progress
     ensures { Ran (running_at setting (view_of c)) input.now out.old out.new result }
 {
-    let mut times = c.times;
-    let mut lens = c.lens;
-    let mut entries = c.bytes;
-    let mut copies = c.copies;
-    let summary = c.summary;
-    let fit = acceptable::is_acceptable(&times, &lens, &entries, summary);
-    let done = merge_lines(
-        fit,
-        setting,
-        &mut times,
-        &mut lens,
-        &mut entries,
-        &mut copies,
-        summary,
-        input,
-        out,
-    );
-    let next = done.summary;
-    let last = Collector {
-        times: times,
-        lens: lens,
-        bytes: entries,
-        copies: copies,
-        summary: next,
+    let fit = acceptable::is_acceptable(&c.times, &c.lens, &c.bytes, c.summary);
+    let mut state = Lent {
+        times: &mut c.times,
+        lens: &mut c.lens,
+        bytes: &mut c.bytes,
+        copies: &mut c.copies,
+        summary: c.summary,
     };
+    let done = merge_lines(fit, setting, &mut state, input, out);
+    c.summary = state.summary;
     Progress {
         session: Session {
             stage: Stage::Running,
             setting: setting,
-            collector: last,
+            collector: c,
         },
         used: done.used,
         written: done.written,
     }
 }
 
-// The same with a state that is changed in place, in its lent arrays and the summary.
-fn merge_lines<'a>(
-    fit: bool,
-    setting: u8,
-    times: &'a mut [u64; Collector::CAPACITY],
-    lens: &'a mut [u8; Collector::CAPACITY],
-    entries: &'a mut [u8; Collector::CAPACITY * Collector::MAX_LEN],
-    copies: &'a mut [u16; Collector::CAPACITY],
-    summary: Summary,
-    input: &'a [u8],
-    out: &'a mut [u8],
-) -> Merged
-    requires { Tested fit (view_in (columns times.old lens.old entries.old copies.old) summary) }
-    ensures { RanTo
-        (running_at setting (view_in
-        (columns times.old lens.old entries.old copies.old) summary))
+// The same with a state that is changed in place.
+fn merge_lines(fit: bool, setting: u8, state: &mut Lent, input: &[u8], out: &mut [u8]) -> Merged
+    requires { Tested fit (view_in (columns_lent state.old) state.old.summary) }
+    ensures ran { RanTo
+        (running_at setting (view_in (columns_lent state.old) state.old.summary))
         input.now out.old out.new
-        (running_at setting (view_in
-        (columns times.new lens.new entries.new copies.new) result.summary))
+        (running_at setting (view_in (columns_lent state.new) state.new.summary))
         result.used result.written }
+    ensures same_loans { SameArrays state.old state.new }
 {
-    let mut summary = summary;
     let mut bytes = [0u8; text_lines::MAX_BYTES];
     let mut at = 0;
     let mut to = 0;
     while LONGEST <= out.len() - to {
-        let l = text_lines::parse(&input[at..], &mut bytes);
-        if l.used == 0 {
+        let Some(line) = text_lines::parse(&input[at..], &mut bytes) else {
             break;
-        }
+        };
         let from = at;
-        at += l.used;
-        let ok = l.ok;
-        if !ok {
+        at += line.used;
+        let Some(heard) = line.heard else {
             to = text_rows::put_bad(out, to);
             continue;
-        }
+        };
         // After the time come a space, two digits for each byte, and the newline.
-        let len = l.len;
+        let len = heard.len;
         let end = at - (2 * len + 2);
-        let done = merging::admit(
-            fit,
-            times,
-            lens,
-            entries,
-            copies,
-            summary,
-            &bytes[0..len],
-            l.time,
-        );
-        summary = done.summary;
-        let answer = done.answer;
+        let answer = state.admit(fit, &bytes[0..len], heard.time);
         to = put_answer(out, to, &input[from..end], setting, answer, &bytes[0..len]);
     }
     Merged {
-        summary: summary,
         used: at,
         written: to,
     }
 }
 
+// Kept (twin): one loop for all three needs a trait for what ends it and what it stores, with laws for RanTo, StoredTo and HeardIn: no plainer.
 // The same with the rows for an archive, as long as fewer than `most` lines were taken and there is an entry for a row.
-pub fn take_rows<'a>(
+// Kept (step): `fit` is what a test said of the state. The answer depends on it, and it chooses no step.
+pub fn take_rows(
     fit: bool,
     setting: u8,
-    times: &'a mut [u64; Collector::CAPACITY],
-    lens: &'a mut [u8; Collector::CAPACITY],
-    entries: &'a mut [u8; Collector::CAPACITY * Collector::MAX_LEN],
-    copies: &'a mut [u16; Collector::CAPACITY],
-    summary: Summary,
-    input: &'a [u8],
+    state: &mut Lent,
+    input: &[u8],
     most: usize,
-    out: &'a mut [u8],
-    moments: &'a mut [u64],
-    rows: &'a mut [u8],
+    out: &mut [u8],
+    moments: &mut [u64],
+    rows: &mut [u8],
 ) -> Stored
-    requires { Tested fit (view_in (columns times.old lens.old entries.old copies.old) summary)
+    requires { Tested fit (view_in (columns_lent state.old) state.old.summary)
         × (length rows.old ≡ 23 * length moments.old) }
-    ensures { StoredTo
-        (running_at setting (view_in
-        (columns times.old lens.old entries.old copies.old) summary))
-        (columns times.old lens.old entries.old copies.old)
+    ensures stored { StoredTo
+        (running_at setting (view_in (columns_lent state.old) state.old.summary)) (columns_lent state.old)
         input.now most out.old moments.old rows.old
         out.new moments.new rows.new
-        (running_at setting (view_in
-        (columns times.new lens.new entries.new copies.new) result.summary))
-        (columns times.new lens.new entries.new copies.new)
+        (running_at setting (view_in (columns_lent state.new) state.new.summary)) (columns_lent state.new)
         result.used result.written result.rows result.lines }
+    ensures same_loans { SameArrays state.old state.new }
 {
-    let mut summary = summary;
     let mut bytes = [0u8; text_lines::MAX_BYTES];
     let mut at = 0;
     let mut to = 0;
@@ -326,39 +276,25 @@ pub fn take_rows<'a>(
         if moments.len() <= n {
             break;
         }
-        let l = text_lines::parse(&input[at..], &mut bytes);
-        if l.used == 0 {
+        let Some(line) = text_lines::parse(&input[at..], &mut bytes) else {
             break;
-        }
+        };
         let from = at;
-        at += l.used;
+        at += line.used;
         left -= 1;
-        let said = l.ok;
-        if !said {
+        let Some(said) = line.heard else {
             let behind = text_rows::put_bad(out, to);
             to = behind;
             continue;
-        }
+        };
         // After the time come a space, two digits for each byte, and the newline.
-        let len = l.len;
+        let len = said.len;
         let end = at - (2 + 2 * len);
-        let done = merging::admit(
-            fit,
-            times,
-            lens,
-            entries,
-            copies,
-            summary,
-            &bytes[0..len],
-            l.time,
-        );
-        summary = done.summary;
-        let answer = done.answer;
-        n = store_row(moments, rows, n, answer, l.time, len, &bytes);
+        let answer = state.admit(fit, &bytes[0..len], said.time);
+        n = store_row(moments, rows, n, answer, said.time, len, &bytes);
         to = put_answer(out, to, &input[from..end], setting, answer, &bytes[0..len]);
     }
     Stored {
-        summary: summary,
         used: at,
         written: to,
         rows: n,

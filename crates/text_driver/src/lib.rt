@@ -50,9 +50,9 @@ pub fn run_on<R: Read, W: Write>(input: &mut R, output: &mut W) -> Result<(), Fa
         match input.read(&mut buffer[kept..]) {
             Ok(n) => {
                 let t = text_print::step(s, &mut buffer, kept + n, n == 0, &mut out);
-                if output.write_all(&out[..t.written]).is_err() {
-                    return Err(Failure::Unwritten);
-                }
+                output
+                    .write_all(&out[..t.written])
+                    .map_err(|_| Failure::Unwritten)?;
                 if t.ended {
                     return Ok(());
                 }

@@ -1,6 +1,7 @@
 -- Laws of thirteen digits that are read at once.
-use mathlib.Core.Path.{◌≡◌, refl, sym, ◌∙◌}
-use mathlib.Core.Bool.{Bool, true}
+use Rattle.std.specs.Prelude.{Some}
+use mathlib.Core.Path.{◌≡◌, sym, ◌∙◌}
+use mathlib.Core.Bool.{true}
 use mathlib.Core.List.{List, [], ◌∷◌, ◌++◌}
 use Prim.Native.Nat.{ℕ, suc, ◌+◌, ◌-◌, ◌*◌, ◌^◌, ◌<◌, ◌≤◌}
 use native.Mathlib.Omega.{arith}
@@ -12,18 +13,11 @@ use lib.Seq.{take-suc, get_or-take, length-take-le, split_at}
 use borrow.Author.Tests.{leb-true, ltb-true, lt-ltb, ne_eqb}
 use Rattle.base_lists.specs.Lists.{all}
 use Rattle.base_lists.proofs.Choice.{both}
-use Rattle.base_lists.proofs.Tests.{and-true}
 use Rattle.text_lines.specs.Ascii.{space, digit0}
 use Rattle.text_lines.specs.Decimal.{is_digit, decimal_of, is_number, is_time, timed_of}
 use Rattle.text_lines.specs.Private.{Thirteen}
-use Rattle.text_lines.specs.declared.Timed.{Timed}
-use Rattle.text_lines.proofs.Digits.{leading_zero}
+use Rattle.text_lines.proofs.Digits.{all_places, leading_zero}
 use Rattle.text_lines.proofs.Times.{timed-joined}
-
--- what holds of each element
-pub all_places : (p : ℕ → Bool) (l : List ℕ) → ((k : ℕ) → k < length l → p (get_or l k 0) ≡ true) → all p l ≡ true
-all_places p [] h = refl
-all_places p (x ∷ l) h = and-true (h 0 (omega arith)) (all_places p l (λ k i. h (suc k) (omega arith)))
 
 pub digit-range : (c : ℕ) → is_digit c ≡ true → (48 ≤ c) × (c < 58)
 digit-range c e =
@@ -91,8 +85,8 @@ module _ {text : List ℕ} (w : Thirteen text) where
             (2 ^ 64) b,
       )
 
-  pub timed_thirteen : Timed.At (decimal_of (take 13 text)) 13 ≡ timed_of text
+  pub timed_thirteen : timed_of text ≡ Some (decimal_of (take 13 text), 13)
   timed_thirteen =
       let j = timed-joined front (drop 14 text) is_time_lem in
       let e : text ≡ front ++ (space ∷ drop 14 text) = rw w.ends at (split_at text 13 0 w.long) in
-      sym (rw (← e, size) at j)
+      rw (← e, size) at j

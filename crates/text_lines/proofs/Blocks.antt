@@ -13,7 +13,7 @@ use Rattle.base_lists.specs.Lists.{padded}
 use Rattle.text_lines.specs.Ascii.{newline}
 use Rattle.text_lines.specs.Hex.{nibble_of, is_hex_digit, is_hex, hex_bytes, leading_bytes, Decoded}
 use Rattle.text_lines.specs.Private.{EndedPairs, Covered, PutTwo, CopiedPart}
-use Rattle.text_lines.proofs.AtOnce.{all_places}
+use Rattle.text_lines.proofs.Digits.{all_places}
 use Rattle.text_lines.proofs.Pairs.{is_hex_lem, leading_hex}
 
 -- ---- eight pairs from pair i of s on, whose characters stand from 2 o on in c, their values in v, and their bytes from o on in b

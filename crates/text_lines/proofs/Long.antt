@@ -1,4 +1,5 @@
 -- A line of `line_limit` characters or more is BAD, whatever it holds, so its front says what it says.
+use Rattle.std.specs.Prelude.{None}
 use mathlib.Core.Path.{◌≡◌, refl, sym, ap, ◌∙◌}
 use mathlib.Core.Bool.{Bool, true, false, cond, not, ◌&&◌, and-false}
 use mathlib.Core.List.{List, [], ◌∷◌}
@@ -16,7 +17,6 @@ use Rattle.text_lines.specs.Decimal.{is_digit, decimal_of, is_number, is_time}
 use Rattle.text_lines.specs.Hex.{is_hex, hex_bytes}
 use Rattle.text_lines.specs.Reading.{reception, bad, line_reading, level_line, setting_of, line_limit}
 use Rattle.text_lines.specs.Claims.{LongLines, FrontsTell}
-use Rattle.text_lines.specs.declared.Setting.{Setting}
 use Rattle.text_lines.proofs.Pairs.{too_long}
 
 -- a first digit other than 0 is worth the power of ten of its place, and so of every place behind it
@@ -73,7 +73,7 @@ other_length [] (y ∷ ys) n = refl
 other_length (x ∷ xs) [] n = refl
 other_length (x ∷ xs) (y ∷ ys) n = rw (other_length xs ys (λ e. n (ap suc e)), and-false (eqb x y))
 
-long-setting : (l : List ℕ) → line_limit ≤ length l → setting_of l ≡ Setting.Bad
+long-setting : (l : List ℕ) → line_limit ≤ length l → setting_of l ≡ None
 unfolding setting_of
 long-setting l h =
     rw (
@@ -98,4 +98,4 @@ long-lines l h = record { reading = long-line l h; setting = long-setting l h }
 
 pub fronts_tell : FrontsTell
 fronts_tell l =
-    record { reading = front line_reading bad long-line l; setting = front setting_of Setting.Bad long-setting l }
+    record { reading = front line_reading bad long-line l; setting = front setting_of None long-setting l }

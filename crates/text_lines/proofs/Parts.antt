@@ -1,7 +1,7 @@
 -- The parts of a line as they are read from the start of a text: k digits that say the time t, and m bytes behind the space. The line says a
 -- reception exactly where a newline stands behind these.
+use Rattle.std.specs.Prelude.{Some, None}
 use mathlib.Core.Path.{◌≡◌, sym, ap, ◌∙◌}
-use mathlib.Core.Bool.{true}
 use mathlib.Core.List.{List, [], ◌∷◌, ◌++◌, append_assoc}
 use Prim.Native.Nat.{ℕ, ◌+◌, ◌-◌, ◌*◌, ◌<◌, ◌≤◌}
 use native.Mathlib.Omega.{arith}
@@ -12,9 +12,8 @@ use Rattle.text_lines.specs.Ascii.{newline, space}
 use Rattle.text_lines.specs.Decimal.{timed_of}
 use Rattle.text_lines.specs.Hex.{hex_bytes, leading_bytes, Decoded}
 use Rattle.text_lines.specs.Reading.{front_of, line_of, bytes_in}
-use Rattle.text_lines.specs.declared.Timed.{Timed}
 use Rattle.text_lines.proofs.Pairs.{Leading, leading_hex, leading, leading_right}
-use Rattle.text_lines.proofs.Times.{Timely, timely}
+use Rattle.text_lines.proofs.Times.{same_parts, Timely, timely}
 use Rattle.text_lines.proofs.Starts.{Starts, line, length-line, line_first, time_first, front_reception}
 
 -- what stands behind p starts with c
@@ -22,15 +21,15 @@ next_is : (p q : List ℕ) {n c : ℕ} → length p ≡ n → n < length (p ++ q
 next_is p [] e h g = absurd (omega (arith, length-append p []))
 next_is p (x ∷ q) {n} e h g = ap (λ (y : ℕ). y ∷ q) (sym (get_or_at p x q 0 n e) ∙ g)
 
-pub no_time : (text : List ℕ) → Timed.Bad ≡ timed_of text → Starts text → ⊥
+pub no_time : (text : List ℕ) → None ≡ timed_of text → Starts text → ⊥
 no_time text e w =
     let f = time_first w in
     let z : ◌≡◌ {A = ℕ} 0 1 = cc in
     omega arith
 
-module _ (text : List ℕ) {t k : ℕ} (timed : Timed.At t k ≡ timed_of text) where
+module _ (text : List ℕ) {t k : ℕ} (timed : timed_of text ≡ Some (t, k)) where
   time : Timely text t k
-  time = timely text (sym timed)
+  time = timely text timed
 
   pub time-within : k < length text
   time-within = time.within
@@ -67,7 +66,7 @@ module _ (text : List ℕ) {t k : ℕ} (timed : Timed.At t k ≡ timed_of text) 
     newline_next : Starts text → (k + 1 + 2 * m < length text) × (get_or text (k + 1 + 2 * m) 0 ≡ newline)
     newline_next w =
         let f = time_first w in
-        let here : k ≡ length w.digits = cc in
+        let here : k ≡ length w.digits = (same_parts (sym timed ∙ f)).1 in
         let left = w.hex ++ (newline ∷ w.rest) in
         let after : behind ≡ left = rw (w.parts, here) (drop-append-add w.digits (space ∷ left) 1) in
         let x = leading_hex w.hex w.rest w.is_right in
@@ -101,7 +100,8 @@ module _ (text : List ℕ) {t k : ℕ} (timed : Timed.At t k ≡ timed_of text) 
             is_right = leading_right pairs;
           }
 
-      pub answer : (record { ok = true; time = t; len = m; used = k + 1 + 2 * m + 1 } ≡ line_of (front_of text))
+      pub answer : (Some (record { heard = Some (record { time = t; len = m }); used = k + 1 + 2 * m + 1 })
+          ≡ line_of (front_of text))
           × (bytes ≡ bytes_in (front_of text))
       unfolding starts
       answer = (

@@ -1,4 +1,5 @@
 -- The line at the start of a text says a reception exactly where the text starts with a time, a space, bytes and a newline.
+use Rattle.std.specs.Prelude.{Option, Some, None}
 use mathlib.Core.Path.{◌≡◌, refl, sym, ap, ◌∙◌}
 use mathlib.Core.Bool.{Bool, true, false, cond}
 use mathlib.Core.List.{List, ◌∷◌, ◌++◌, append_assoc}
@@ -15,7 +16,6 @@ use Rattle.text_lines.specs.Decimal.{is_digit, decimal_of, is_time, timed_of}
 use Rattle.text_lines.specs.Hex.{nibble_of, is_hex_digit, is_hex, hex_bytes}
 use Rattle.text_lines.specs.Reading.{Reading, reception, bad, line_reading, Front, ended, unended, front_of, bad_front, line_of, bytes_in}
 use Rattle.text_lines.specs.declared.Line.{Line}
-use Rattle.text_lines.specs.declared.Timed.{Timed}
 use Rattle.text_lines.proofs.Pairs.{hexed}
 use Rattle.text_lines.proofs.Times.{timed-joined}
 use Rattle.text_lines.proofs.Whole.{found_at, index_past, time-digits, joined, said}
@@ -62,7 +62,7 @@ module _ {text : List ℕ} (w : Starts text) where
         joined w.digits w.hex w.is_timely w.is_right,
       )
 
-  pub time_first : timed_of text ≡ Timed.At (decimal_of w.digits) (length w.digits)
+  pub time_first : timed_of text ≡ Some (decimal_of w.digits, length w.digits)
   time_first = rw w.parts (timed-joined w.digits (w.hex ++ (newline ∷ w.rest)) w.is_timely)
 
 -- ---- the three cases
@@ -110,15 +110,15 @@ unfolding slice
 found_whole b text e = e ∙ rw (take-length text, zero-add (index_of b text))
 
 module _ (text : List ℕ) {n : ℕ} (found : n ≡ index_of newline text) where
-  pub not-ended : length text ≤ n → record { ok = false; time = 0; len = 0; used = 0 } ≡ line_of (bad_front text)
+  pub not-ended : length text ≤ n → None ≡ line_of (bad_front text)
   unfolding bad_front
   not-ended h = rw (sym found, le-ltb n (length text) h)
 
-  pub ended-bad : n < length text → record { ok = false; time = 0; len = 0; used = n + 1 } ≡ line_of (bad_front text)
+  pub ended-bad : n < length text → Some (record { heard = None; used = n + 1 }) ≡ line_of (bad_front text)
   unfolding bad_front
   ended-bad h = rw (sym found, lt-ltb n (length text) h)
 
-pub answer-bad : {text bytes : List ℕ} {r : Line} → (Starts text → ⊥)
+pub answer-bad : {text bytes : List ℕ} {r : Option Line} → (Starts text → ⊥)
     → (r ≡ line_of (bad_front text)) × (bytes ≡ replicate 64 0)
     → (r ≡ line_of (front_of text)) × (bytes ≡ bytes_in (front_of text))
 answer-bad {text} {bytes} {r} other e =

@@ -1,12 +1,11 @@
 -- The claims on long lines. proofs/Long.antt proves them.
-use Rattle.std.specs.Prelude.{◌≡◌, List, ℕ, ◌≤◌, length, take}
-use Rattle.text_lines.specs.declared.Setting.{Setting}
+use Rattle.std.specs.Prelude.{◌≡◌, List, ℕ, ◌≤◌, length, take, None}
 use Rattle.text_lines.specs.Reading.{bad, setting_of, line_reading, line_limit}
 
 -- a line of 150 characters or more is BAD, as the first line and as a later line
 pub record SaysNothing (l : List ℕ) : Type 0 where
   pub reading : line_reading l ≡ bad
-  pub setting : setting_of l ≡ Setting.Bad
+  pub setting : setting_of l ≡ None
 
 -- Long lines: this holds for every line of 150 characters or more.
 abbrev pub LongLines : Type 0

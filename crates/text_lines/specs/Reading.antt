@@ -1,11 +1,10 @@
 -- The contents of the lines that `collect` reads (document 01, "Cases").
-use Rattle.std.specs.Prelude.{ℕ, suc, ◌+◌, true, false, cond, ◌&&◌, List, [], ◌∷◌, ltb, length, take, drop, replicate}
+use Rattle.std.specs.Prelude.{ℕ, suc, ◌+◌, cond, ◌&&◌, List, [], ◌∷◌, ltb, length, take, drop, replicate, Option, Some, None}
 use Rattle.base_bytes.specs.Bytes.{index_of}
 use Rattle.base_lists.specs.Lists.{equal, padded}
 use Rattle.text_lines.specs.Ascii.{newline, space, digit0}
 use Rattle.text_lines.specs.Decimal.{decimal_of, is_time}
 use Rattle.text_lines.specs.Hex.{max_bytes, hex_bytes, is_hex}
-use Rattle.text_lines.specs.declared.Setting.{Setting}
 use Rattle.text_lines.specs.declared.Line.{Line}
 
 -- `level ` and a digit
@@ -17,12 +16,12 @@ level_line n =
     l ∷ e ∷ v ∷ e ∷ l ∷ space ∷ (digit0 + n) ∷ []
 
 -- the first line: level 0, 1 or 2; any other is BAD
-unfoldable pub setting_of : List ℕ → Setting
+unfoldable pub setting_of : List ℕ → Option ℕ
 setting_of l =
-    cond (equal l (level_line 0)) (Setting.Level 0)
-    (cond (equal l (level_line 1)) (Setting.Level 1)
-    (cond (equal l (level_line 2)) (Setting.Level 2)
-    Setting.Bad))
+    cond (equal l (level_line 0)) (Some 0)
+    (cond (equal l (level_line 1)) (Some 1)
+    (cond (equal l (level_line 2)) (Some 2)
+    None))
 
 -- the content of a later line
 pub data Reading : Type 0 where
@@ -58,12 +57,12 @@ bad_front text =
     let n = index_of newline text in
     cond (ltb n (length text)) (ended n bad) unended
 
--- the result for a line: its time, the number of its bytes, and the number of its characters with the newline. For a
--- BAD line, time and bytes are 0; if no newline ends it, all are 0.
-abbrev pub line_of : Front → Line
-line_of (ended n (reception t bs)) = record { ok = true; time = t; len = length bs; used = n + 1 }
-line_of (ended n bad) = record { ok = false; time = 0; len = 0; used = n + 1 }
-line_of unended = record { ok = false; time = 0; len = 0; used = 0 }
+-- the result for a line: the time and the number of its bytes, and the number of its characters with the newline. A BAD
+-- line has no time and no bytes; if no newline ends it, there is no line.
+abbrev pub line_of : Front → Option Line
+line_of (ended n (reception t bs)) = Some (record { heard = Some (record { time = t; len = length bs }); used = n + 1 })
+line_of (ended n bad) = Some (record { heard = None; used = n + 1 })
+line_of unended = None
 
 -- the bytes that are written with it: those of the reception, zero filled to 64
 abbrev pub bytes_in : Front → List ℕ

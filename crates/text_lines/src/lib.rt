@@ -1,73 +1,55 @@
 // Reads the lines of the program `collect` (document 01, "Cases").
 #![tactic(auto)]
 
-ghost use Rattle.std.specs.Prelude.{◌≡◌, true, ℕ, ◌+◌, ◌*◌, ◌/◌, ◌%◌, ◌<◌, ◌≤◌, min, length, get_or, take, replicate};
-ghost use Rattle.text_lines.specs.Decimal.{is_digit, decimal_of, appended, timed_of};
+ghost use Rattle.std.specs.Prelude.{◌≡◌, true, ℕ, ◌+◌, ◌*◌, ◌%◌, ◌<◌, ◌≤◌, length, get_or, take, replicate, IfSome};
+ghost use Rattle.text_lines.specs.Decimal.{is_digit, decimal_of, is_time, number_if, appended, timed_of};
 ghost use Rattle.text_lines.specs.Private.{Thirteen, EndedPairs, PutTwo, CopiedPart};
 ghost use Rattle.text_lines.specs.Hex.{max_bytes, nibble_of, Decoded};
 ghost use Rattle.text_lines.specs.Reading.{setting_of, front_of, bad_front, line_of, bytes_in};
 
-// The content of the first line.
+// What a line says was received: the time, and how many bytes, which are the first of the lent ones.
 #[derive(Clone, Copy)]
-pub enum Setting {
-    Level(u8),
-    Bad,
-}
-
-// The content of the line at the start of a text: a time and the first `len` of the lent bytes; it has `used` characters with its newline. If it is
-// BAD, all but `used` is zero; if no newline ends it, `used` too.
-#[derive(Clone, Copy)]
-pub struct Line {
-    pub ok: bool,
+pub struct Heard {
     pub time: u64,
     pub len: usize,
+}
+
+// The content of the line at the start of a text, which has `used` characters with its newline. In a BAD line nothing was heard.
+#[derive(Clone, Copy)]
+pub struct Line {
+    pub heard: Option<Heard>,
     pub used: usize,
 }
 
 // The largest number of bytes of a reception in a line, and of their digits.
 pub const MAX_BYTES: usize = 64;
 
-const MAX_DIGITS: usize = 2 * MAX_BYTES;
-
 // A line of this length is always BAD.
 pub const LINE_LIMIT: usize = 150;
 
-// The value of digits.
-#[derive(Clone, Copy)]
-enum Number {
-    Value(u64),
-    Bad,
-}
-
-// The time at the start of a text, and how many digits it has.
-#[derive(Clone, Copy)]
-enum Timed {
-    At(u64, usize),
-    Bad,
-}
-
 // Reads the repeater setting in the first line.
-pub fn parse_setting(line: &[u8]) -> Setting
+// Kept (conversion): a slice and an array do not compare by ==, and a match on byte strings is no plainer.
+pub fn parse_setting(line: &[u8]) -> Option<u8>
     ensures { result ≡ setting_of line.now }
 {
     if base_bytes::same(line, b"level 0") {
-        return Setting::Level(0);
+        return Some(0);
     }
     if base_bytes::same(line, b"level 1") {
-        return Setting::Level(1);
+        return Some(1);
     }
     if base_bytes::same(line, b"level 2") {
-        return Setting::Level(2);
+        return Some(2);
     }
-    Setting::Bad
+    None
 }
 
-// Reads the reception in the line at the start of a text; its bytes are at the front of `bytes`, filled with zeros.
-pub fn parse(text: &[u8], bytes: &mut [u8; MAX_BYTES]) -> Line
+// Reads the reception in the line at the start of a text, if a newline ends it; its bytes are at the front of `bytes`, filled with zeros.
+pub fn parse(text: &[u8], bytes: &mut [u8; MAX_BYTES]) -> Option<Line>
     ensures { (result ≡ line_of (front_of text.now))
         × (bytes.new ≡ bytes_in (front_of text.now)) }
 {
-    let Timed::At(time, digits) = parse_time(text) else {
+    let Some((time, digits)) = parse_time(text) else {
         return bad_line(text, bytes);
     };
     let from = digits + 1;
@@ -80,45 +62,34 @@ pub fn parse(text: &[u8], bytes: &mut [u8; MAX_BYTES]) -> Line
     if text[at] != 10 {
         return bad_line(text, bytes);
     }
-    Line {
-        ok: true,
-        time: time,
-        len: len,
+    Some(Line {
+        heard: Some(Heard { time, len }),
         used: at + 1,
-    }
+    })
 }
 
 // The answer for a line without a reception.
-fn bad_line(text: &[u8], bytes: &mut [u8; MAX_BYTES]) -> Line
+fn bad_line(text: &[u8], bytes: &mut [u8; MAX_BYTES]) -> Option<Line>
     ensures { (result ≡ line_of (bad_front text.now)) × (bytes.new ≡ replicate max_bytes 0) }
 {
     *bytes = [0u8; MAX_BYTES];
     let end = text.len();
     let n = base_bytes::find(text, 0, end, 10);
     if end <= n {
-        return Line {
-            ok: false,
-            time: 0,
-            len: 0,
-            used: 0,
-        };
+        return None;
     }
-    Line {
-        ok: false,
-        time: 0,
-        len: 0,
+    Some(Line {
+        heard: None,
         used: n + 1,
-    }
+    })
 }
 
 // Reads the time at the start of a text. In ms it has thirteen digits from 2001 to 2286: these are read at once.
-fn parse_time(text: &[u8]) -> Timed
+fn parse_time(text: &[u8]) -> Option<(u64, usize)>
     ensures { result ≡ timed_of text.now }
 {
-    if 13 < text.len() {
-        if has_thirteen(text) {
-            return Timed::At(thirteen(text), 13);
-        }
+    if 13 < text.len() && has_thirteen(text) {
+        return Some((thirteen(text), 13));
     }
     read_time(text)
 }
@@ -128,17 +99,16 @@ fn has_thirteen(text: &[u8]) -> bool
     requires { 13 < length text.now }
     ensures { result ≡ true → Thirteen text.now }
 {
-    (are_digits(text, 0) & are_digits(text, 5)) & ((text[0] != 48) & (text[13] == 32))
+    (are_digits(&text[0..8]) & are_digits(&text[5..13])) & ((text[0] != 48) & (text[13] == 32))
 }
 
-// Whether eight characters are digits. There is no branch before all are read, so they are tested in one vector.
-fn are_digits(text: &[u8], from: usize) -> bool
-    requires { from + 8 ≤ length text.now }
-    ensures { result ≡ true → (k : ℕ) → k < 8 → is_digit (get_or text.now (from + k) 0) ≡ true }
+// Whether all characters are digits. There is no branch before all are read, so eight are tested in one vector.
+fn are_digits(s: &[u8]) -> bool
+    ensures { result ≡ true → (k : ℕ) → k < length s.now → is_digit (get_or s.now k 0) ≡ true }
 {
     let mut all = true;
-    for k in 0..8 {
-        all = all & is_digit(text[from + k]);
+    for c in s {
+        all = all & is_digit(*c);
     }
     all
 }
@@ -150,6 +120,7 @@ fn is_digit(c: u8) -> bool
 }
 
 // The value of thirteen digits, which always fits 64 bits.
+// Kept (loop): no plainer: the loop of 13 is unrolled, and k is a place that the requires clause names.
 fn thirteen(text: &[u8]) -> u64
     requires { Thirteen text.now }
     ensures { result ≡ decimal_of (take 13 text.now) }
@@ -161,60 +132,51 @@ fn thirteen(text: &[u8]) -> u64
     n
 }
 
-// Reads the time at the start of a text: digits up to the first character that does not continue the number, which must be a space.
-fn read_time(text: &[u8]) -> Timed
+// Reads the time at the start of a text: digits up to the first character that is none, which must be a space.
+fn read_time(text: &[u8]) -> Option<(u64, usize)>
     ensures { result ≡ timed_of text.now }
 {
-    let mut time: u64 = 0;
-    let mut i = 0;
-    while i < text.len() {
-        let Number::Value(more) = append(time, text[i]) else {
-            if text[i] != 32 {
-                return Timed::Bad;
-            }
-            if i == 0 {
-                return Timed::Bad;
-            }
-            if (1 < i) & (text[0] == 48) {
-                return Timed::Bad;
-            }
-            return Timed::At(time, i);
-        };
-        time = more;
-        i += 1;
+    let end = text.iter().position(|c| !is_digit(*c))?;
+    if text[end] != 32 {
+        return None;
     }
-    Timed::Bad
+    Some((number(&text[..end])?, end))
+}
+
+// The 64-bit number without leading zeros that digits say.
+fn number(digits: &[u8]) -> Option<u64>
+    ensures { result ≡ number_if (is_time digits.now) (decimal_of digits.now) }
+{
+    if digits.is_empty() {
+        return None;
+    }
+    if (1 < digits.len()) & (digits[0] == 48) {
+        return None;
+    }
+    let mut n = 0;
+    for c in digits {
+        n = append(n, *c)?;
+    }
+    Some(n)
 }
 
 // n with the digit c appended.
-fn append(n: u64, c: u8) -> Number
+fn append(n: u64, c: u8) -> Option<u64>
     ensures { result ≡ appended n c }
 {
-    if c < 48 {
-        return Number::Bad;
+    if !is_digit(c) {
+        return None;
     }
-    if 57 < c {
-        return Number::Bad;
-    }
-    let d = (c - 48) as u64;
-    if u64::MAX / 10 < n {
-        return Number::Bad;
-    }
-    let m = n * 10;
-    if u64::MAX - m < d {
-        return Number::Bad;
-    }
-    Number::Value(m + d)
+    n.checked_mul(10)?.checked_add(u64::from(c - 48))
 }
 
 // Writes the bytes of the pairs of digits at the front of s to the front of `bytes`, at most MAX_BYTES, and returns how many there are.
 fn decode(s: &[u8], bytes: &mut [u8; MAX_BYTES]) -> usize
     ensures { Decoded s.now bytes.new result }
 {
-    let n = count_pairs(s);
-    if n == 0 {
+    let Some(n) = count_pairs(s) else {
         return decode_pairs(s, bytes);
-    }
+    };
     *bytes = [0u8; MAX_BYTES];
     if !decode_at_once(s, n, bytes) {
         return decode_pairs(s, bytes);
@@ -222,22 +184,20 @@ fn decode(s: &[u8], bytes: &mut [u8; MAX_BYTES]) -> usize
     n
 }
 
-// How many pairs of characters come before a newline: 8 to 24, which includes every length of a subtelegram. 0 if there is no such newline, or if the
-// text is too short for 24 pairs and a newline. It does not test whether they are digits.
-fn count_pairs(s: &[u8]) -> usize
-    ensures { 0 < result → EndedPairs s.now result }
+// How many pairs of characters come before a newline: 8 to 24, which includes every length of a subtelegram. None if there is no such newline, or if
+// the text is too short for 24 pairs and a newline. It does not test whether they are digits.
+fn count_pairs(s: &[u8]) -> Option<usize>
+    ensures { IfSome result (λ n. EndedPairs s.now n) }
 {
     if s.len() < 49 {
-        return 0;
+        return None;
     }
-    let mut n = 8;
-    while n <= 24 {
+    for n in 8..25 {
         if s[2 * n] == 10 {
-            return n;
+            return Some(n);
         }
-        n += 1;
     }
-    0
+    None
 }
 
 // Writes the bytes of n pairs to the front of zeros, eight at a time; the last eight end where the pairs end. Returns whether all are digits.
@@ -271,6 +231,7 @@ fn put_two(s: &[u8], i: usize, j: usize, bytes: &mut [u8; MAX_BYTES]) -> bool
 }
 
 // Copies n bytes of a slice into another slice.
+// Kept (loop): tried: with `copy_from_slice`, twenty million lines read and written take 0.57 s in place of 0.45 s.
 pub fn copy_part(src: &[u8], from: usize, n: usize, dst: &mut [u8], to: usize)
     requires { (from + n ≤ length src.now) × (to + n ≤ length dst.old) }
     ensures { CopiedPart src.now from n dst.old to dst.new }
@@ -281,6 +242,7 @@ pub fn copy_part(src: &[u8], from: usize, n: usize, dst: &mut [u8], to: usize)
 }
 
 // The values of characters as hexadecimal digits.
+// Kept (loop): a count that is a constant makes one vector of all 32; by two iterators in step this needs more lines, and is no plainer.
 fn nibbles(c: [u8; 32]) -> [u8; 32]
     ensures { (length result ≡ 32) × ((k : ℕ) → k < 32 → get_or result k 0 ≡ nibble_of (get_or c k 0)) }
 {
@@ -296,13 +258,14 @@ fn are_nibbles(v: [u8; 32]) -> bool
     ensures { result ≡ true → (k : ℕ) → k < 32 → get_or v k 0 < 16 }
 {
     let mut all = true;
-    for k in 0..32 {
-        all = all & (v[k] < 16);
+    for x in &v {
+        all = all & (*x < 16);
     }
     all
 }
 
 // The bytes of these pairs.
+// Kept (loop): a count that is a constant makes one vector of all 16; each byte is of two places of v, so pairs in step are no plainer.
 fn joined(v: [u8; 32]) -> [u8; 16]
     ensures { (length result ≡ 16) × ((k : ℕ) → k < 16
         → get_or result k 0 ≡ get_or v (2 * k) 0 % 16 * 16 + get_or v (2 * k + 1) 0 % 16) }
@@ -319,19 +282,16 @@ fn decode_pairs(s: &[u8], bytes: &mut [u8; MAX_BYTES]) -> usize
     ensures { Decoded s.now bytes.new result }
 {
     *bytes = [0u8; MAX_BYTES];
-    let limit = pairs_of(s.len());
-    let mut i = 0;
-    while i < limit {
-        let at = 2 * i;
-        let high = nibble(s[at]);
-        let low = nibble(s[at + 1]);
+    let limit = (s.len() / 2).min(MAX_BYTES);
+    for i in 0..limit {
+        let high = nibble(s[2 * i]);
+        let low = nibble(s[2 * i + 1]);
         if (15 < high) | (15 < low) {
-            break;
+            return i;
         }
         bytes[i] = high * 16 + low;
-        i += 1;
     }
-    i
+    limit
 }
 
 // The value of c as a hexadecimal digit; 16 for any other character.
@@ -348,14 +308,4 @@ fn nibble(c: u8) -> u8
         return c - 87;
     }
     16
-}
-
-// How many pairs n characters are, at most MAX_BYTES.
-fn pairs_of(n: usize) -> usize
-    ensures { result ≡ min (n / 2) max_bytes }
-{
-    if n < MAX_DIGITS {
-        return n / 2;
-    }
-    MAX_BYTES
 }

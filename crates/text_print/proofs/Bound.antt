@@ -1,5 +1,6 @@
 -- No text of a line is longer than fifteen times the line with its newline: a row without bytes to send has 30 characters beside its time, and one
 -- with bytes to send is of a line with eight bytes at least.
+use Rattle.std.specs.Prelude.{Option, Some, None}
 use mathlib.Core.Path.{◌≡◌, refl, sym, ap}
 use mathlib.Core.Bool.{Bool, true, false, cond}
 use mathlib.Core.List.{List, [], ◌∷◌, ◌++◌}
@@ -15,7 +16,6 @@ use Rattle.radio_telegram.proofs.Repeating.{relay_fits, relay_short}
 use Rattle.collector_model.specs.Answer.{Shown, is_kept}
 use Rattle.collector_model.specs.Step.{sent_for}
 use Rattle.text_lines.specs.Ascii.{newline}
-use Rattle.text_lines.specs.declared.Setting.{Setting}
 use Rattle.text_lines.specs.Reading.{Reading, reception, bad, setting_of, line_reading, line_limit}
 use Rattle.text_lines.proofs.Whole.{Said, said}
 use Rattle.text_rows.specs.Text.{decimal_text}
@@ -62,9 +62,9 @@ time-long l {t} {bs} w =
     let d = ap length (time-text l k (omega arith) v) in
     omega (arith, room, e, d)
 
-first_bound : (x : Setting) → length (first_text model_collector x) ≤ 4
-first_bound (Setting.Level n) = omega arith
-first_bound Setting.Bad = omega arith
+first_bound : (x : (Option ℕ)) → length (first_text model_collector x) ≤ 4
+first_bound (Some n) = omega arith
+first_bound None = omega arith
 
 row-bound : (c : Receiver) (l : List ℕ) (x : Reading) → line_reading l ≡ x
     → length (line_text model_collector c x) ≤ 15 * (length l + 1)

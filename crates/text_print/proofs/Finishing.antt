@@ -1,4 +1,5 @@
 -- The end of a run: what is kept of a line, with a newline behind it, is one more line, and no text of a line is longer than the longest row.
+use Rattle.std.specs.Prelude.{Option, Some, None}
 use mathlib.Core.Path.{◌≡◌, refl, sym, ap, ◌∙◌}
 use mathlib.Core.Bool.{Bool, true, false, cond}
 use mathlib.Core.List.{List, [], ◌∷◌, ◌++◌}
@@ -10,7 +11,6 @@ use lib.ListN.{length, take, drop, set, length-take, length-drop, length-append}
 use lib.Seq.{take-nil, take_all, take-length, take-append-le, take-append_seam, take-suc-set, length-take-le}
 use Rattle.collector_model.specs.Step.{sent_for}
 use Rattle.text_lines.specs.Ascii.{newline}
-use Rattle.text_lines.specs.declared.Setting.{Setting}
 use Rattle.text_lines.specs.Reading.{Reading, reception, bad, setting_of, line_reading, line_limit}
 use Rattle.base_buffers.specs.Printed.{Printed, PrintedIfFits}
 use Rattle.text_rows.specs.Text.{decimal_text}
@@ -31,9 +31,9 @@ use Rattle.text_print.proofs.Bound.{sent-short}
 
 -- ---- how long a text is
 
-first_short : (x : Setting) → length (first_text model_collector x) ≤ longest_line
-first_short (Setting.Level n) = omega arith
-first_short Setting.Bad = omega arith
+first_short : (x : (Option ℕ)) → length (first_text model_collector x) ≤ longest_line
+first_short (Some n) = omega arith
+first_short None = omega arith
 
 later-short : (c : Receiver) (x : Reading) → length (line_text model_collector c x) ≤ longest_line
 later-short c (reception t bs) =

@@ -5,7 +5,7 @@ use Prim.Native.Nat.{ℕ, ◌+◌, ◌-◌, ◌≤◌}
 use native.Mathlib.Omega.{arith}
 use native.Mathlib.Nat.{zero-add}
 use lib.ListN.{length, take, drop, length-drop}
-use lib.Seq.{sets, sets-eq, drop-drop, drop-length, take-add, take-length}
+use lib.Seq.{sets-eq, drop-drop, drop-length, take-add}
 use borrow.Rule.Slice.PartMut.{put_mid, post_of, Post-is}
 use Rattle.base_buffers.specs.Printed.{Printed}
 use Rattle.base_buffers.proofs.Stores.{then, take_rest}
@@ -44,21 +44,10 @@ module _ (out : List ℕ) (to : ℕ) (within : to ≤ length out) where
         short = omega (arith, p.short);
       }
 
--- what `bytes::copy` leaves there
-pub copied-part : (out : List ℕ) (to : ℕ) (xs : List ℕ) {part' : List ℕ} → to + length xs ≤ length out
-    → part' ≡ take (length xs) xs ++ drop (length xs) (take (length out - to) (drop to out))
-    → put_mid to (length out - to) out part' ≡ take to out ++ (xs ++ drop (to + length xs) out)
-copied-part out to xs {part'} fits e =
-    let f : part' ≡ xs ++ drop (length xs) (drop to out) =
-    e ∙ rw (take-length xs, take_rest out (length out) to refl) in
-    rw f (put_front out to (omega arith) xs fits)
-
-pub copied-sets : (out : List ℕ) (to : ℕ) (xs : List ℕ) {part' : List ℕ} → to + length xs ≤ length out
-    → part' ≡ take (length xs) xs ++ drop (length xs) (take (length out - to) (drop to out))
-    → put_mid to (length out - to) out part' ≡ sets out to xs
-copied-sets out to xs fits e =
-    copied-part out to xs fits e
-    ∙ sym (sets-eq xs out to fits ∙ append_assoc (take to out) xs (drop (to + length xs) out))
+-- a part that is replaced as a whole
+pub copied-part : (out : List ℕ) (to k : ℕ) (xs : List ℕ) → k ≡ length xs
+    → put_mid to k out xs ≡ take to out ++ (xs ++ drop (to + length xs) out)
+copied-part out to k xs e = rw e (ap (λ (z : List ℕ). take to out ++ (xs ++ z)) (drop-drop (length xs) to out))
 
 -- ---- more lines
 

@@ -1,4 +1,6 @@
 -- One turn through an input: a piece is put behind what is kept, a step is made, and what it gives is written.
+use Rattle.std.specs.Prelude.{Ok, Err}
+use Rattle.base_refusal.specs.declared.Refusal.TheVariants.{ShortOutput}
 use mathlib.Core.Path.{◌≡◌, refl, sym, ap, ◌∙◌}
 use mathlib.Core.Bool.{Bool, true, false, cond, ◌||◌, false≢true, true≢false}
 use mathlib.Core.List.{List, [], ◌++◌, append_assoc, append-nil}
@@ -167,11 +169,10 @@ module _ (write : Bool) (input out₀ : List ℕ) {out : List ℕ} {s : Phase Re
   quiet_so_far : write ≡ false → out ≡ out₀
   quiet_so_far e = rw e at i.text
 
-  pub too_short : length out₀ - to < r.written → Passed write input out₀ out (record { fits = false; written = 0 })
+  pub too_short : length out₀ - to < r.written → Passed write input out₀ out (Err ShortOutput)
   too_short h = record {
-    fits = sym (lt-leb (length (printed_of input)) (length out₀) (omega (arith, reach, i.room)));
+    answer = rw (lt-leb (length (printed_of input)) (length out₀) (omega (arith, reach, i.room)));
     quiet = quiet_so_far;
-    count = λ e. absurd (false≢true e);
     text = λ e f. absurd (false≢true f);
   }
 
@@ -190,7 +191,7 @@ module _ (write : Bool) (input out₀ : List ℕ) {out : List ℕ} {s : Phase Re
         in
         (then before now).bytes
 
-    pub done : r.ended ≡ true → Passed write input out₀ out' (record { fits = true; written = to + r.written })
+    pub done : r.ended ≡ true → Passed write input out₀ out' (Ok (to + r.written))
     done d =
         let size-all : length (printed_of input) ≡ to + r.written =
         omega (
@@ -201,9 +202,8 @@ module _ (write : Bool) (input out₀ : List ℕ) {out : List ℕ} {s : Phase Re
           k.output.next,
         ) in
         record {
-          fits = sym (le-leb (length (printed_of input)) (length out₀) (omega arith));
+          answer = rw (size-all, le-leb (to + r.written) (length out₀) room);
           quiet = quiet-still;
-          count = λ e. sym size-all;
           text = λ e f. rw (whole d) (written_on e);
         }
 

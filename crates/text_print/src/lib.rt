@@ -2,7 +2,7 @@
 // whole input.
 #![tactic(auto)]
 
-ghost use Rattle.std.specs.Prelude.{◌≡◌, Bool, true, cond, ◌++◌, ◌+◌, ◌-◌, ◌≤◌, min, length, take, drop};
+ghost use Rattle.std.specs.Prelude.{◌≡◌, true, cond, ◌++◌, ◌+◌, ◌-◌, ◌≤◌, min, length, take, drop};
 ghost use Rattle.std.proofs.lemmas.List.Edits.{sets};
 ghost use Rattle.text_lines.specs.Reading.{line_limit};
 ghost use Rattle.radio_telegram.specs.Output.{result_of};
@@ -16,7 +16,6 @@ ghost use Rattle.text_print.specs.Print.{print_result};
 ghost use Rattle.text_print.specs.Private.{Drained, Passed};
 
 use base_refusal::Refusal;
-use radio_telegram::frame::Built;
 use text_collect::{Session, Stage};
 
 // The length of a chunk, and room for what it gives: a line of n characters, with its newline, gives at most 15 n characters, and the end gives at
@@ -43,13 +42,6 @@ pub(crate) struct Drain {
     pub written: usize,
 }
 
-// Whether the text of an input fits, and how long it is.
-#[derive(Clone, Copy)]
-pub(crate) struct Pass {
-    pub fits: bool,
-    pub written: usize,
-}
-
 // A chunk of zeros, and a text of zeros.
 pub fn chunk_buffer() -> [u8; CHUNK]
     ensures { chunk ≡ length result }
@@ -65,6 +57,7 @@ pub fn text_buffer() -> [u8; CAPACITY]
 
 // Takes the first `end` characters of the buffer, or all of them, from the start of a line on; `last` says that the input ends with them. What they
 // give goes to the front of `out`; what is kept of a line that has not ended goes to the front of the buffer.
+// Kept (step): `last` says whether the input has ended. It is a fact, and chooses no step.
 pub fn step(
     s: Session,
     buffer: &mut [u8; CHUNK],
@@ -75,7 +68,7 @@ pub fn step(
     ensures { Stepped (phase_of s) buffer.old end last out.old buffer.new
         out.new result }
 {
-    take_chunk(s, buffer, least(end, CHUNK), last, out)
+    take_chunk(s, buffer, end.min(CHUNK), last, out)
 }
 
 fn take_chunk(s: Session, buffer: &mut [u8], end: usize, last: bool, out: &mut [u8]) -> Turn
@@ -104,24 +97,10 @@ fn take_chunk(s: Session, buffer: &mut [u8], end: usize, last: bool, out: &mut [
     }
 }
 
-fn least(a: usize, b: usize) -> usize
-    ensures { result ≡ min a b }
-{
-    if a < b {
-        return a;
-    }
-    b
-}
-
 fn is_over(s: Session) -> bool
     ensures { result ≡ is_over (phase_of s) }
 {
-    let stage = s.stage;
-    match stage {
-        Stage::Starting => false,
-        Stage::Running => false,
-        Stage::Over => true,
-    }
+    matches!(s.stage, Stage::Over)
 }
 
 // Takes all whole lines of the input; `lines` is called again each time it stops.
@@ -172,19 +151,16 @@ fn finish(s: Session, line: &[u8], out: &mut [u8]) -> usize
 // ---- a whole input
 
 // Writes what `collect` prints for the input to the front of the output. Refused: 6 if it does not fit; then the output is unchanged.
-pub fn print(input: &[u8], out: &mut [u8]) -> Built
+pub fn print(input: &[u8], out: &mut [u8]) -> Result<usize, Refusal>
     ensures { result_of result out.new ≡ print_result input.now out.old }
 {
-    let p = go_through(false, input, out);
-    if !p.fits {
-        return Built::Refused(Refusal::ShortOutput);
-    }
-    let q = go_through(true, input, out);
-    Built::Done(q.written)
+    go_through(false, input, out)?;
+    go_through(true, input, out)
 }
 
-// Reads the input as the program does, chunk by chunk, and writes what is printed if `write` is true.
-fn go_through(write: bool, input: &[u8], out: &mut [u8]) -> Pass
+// Reads the input as the program does, chunk by chunk, and writes what is printed if `write` is true. Answers how long that is; refused: 6 if it does
+// not fit.
+fn go_through(write: bool, input: &[u8], out: &mut [u8]) -> Result<usize, Refusal>
     ensures { Passed write input.now out.old out.new result }
 {
     let mut buffer = chunk_buffer();
@@ -198,19 +174,13 @@ fn go_through(write: bool, input: &[u8], out: &mut [u8]) -> Pass
         let t = step(s, &mut buffer, kept + n, n == 0, &mut text);
         let w = t.written;
         if out.len() - to < w {
-            return Pass {
-                fits: false,
-                written: 0,
-            };
+            return Err(Refusal::ShortOutput);
         }
         write_some(write, &text, w, out, to);
         at += n;
         to += w;
         if t.ended {
-            return Pass {
-                fits: true,
-                written: to,
-            };
+            return Ok(to);
         }
         kept = t.kept;
         let session = t.session;
@@ -225,9 +195,8 @@ fn read_some(input: &[u8], at: usize, buffer: &mut [u8], kept: usize) -> usize
         × (buffer.new ≡ take kept buffer.old ++ (take result (drop at input.now)
         ++ drop (kept + result) buffer.old)) }
 {
-    let n = least(input.len() - at, CHUNK - kept);
-    let end = at + n;
-    base_bytes::copy(&input[at..end], &mut buffer[kept..]);
+    let n = (input.len() - at).min(CHUNK - kept);
+    buffer[kept..kept + n].copy_from_slice(&input[at..at + n]);
     n
 }
 
@@ -236,8 +205,7 @@ fn write_some(write: bool, text: &[u8], n: usize, out: &mut [u8], to: usize)
     requires { (n ≤ length text.now) × (to + n ≤ length out.old) }
     ensures { out.new ≡ cond write (sets out.old to (take n text.now)) out.old }
 {
-    if !write {
-        return;
+    if write {
+        out[to..to + n].copy_from_slice(&text[..n]);
     }
-    base_bytes::copy(&text[0..n], &mut out[to..]);
 }

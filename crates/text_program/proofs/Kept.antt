@@ -2,8 +2,9 @@
 use mathlib.Core.Path.{◌≡◌, sym}
 use mathlib.Core.Bool.{and-false}
 use mathlib.Core.List.{List, []}
-use Prim.Native.Nat.{ℕ, ◌+◌, ◌-◌, ◌<◌, ◌≤◌}
+use Prim.Native.Nat.{ℕ, min, ◌+◌, ◌-◌, ◌<◌, ◌≤◌}
 use native.Mathlib.Omega.{arith}
+use native.Mathlib.Decide.{dec_lt}
 use lib.Dec.{leb}
 use lib.ListN.{length, take, drop, length-drop}
 use lib.Seq.{sets, take-take, take_all, length-take-le}
@@ -43,11 +44,17 @@ module _ (buffer : List ℕ) (from end : ℕ) where
           count = rw (le-leb end (length buffer) within, le-leb from end ordered, e, l) moved.1;
         }
 
-    pub all_kept : n ≡ end - from → n ≤ line_limit → Carried buffer from end new r
+    all_kept : n ≡ end - from → n ≤ line_limit → Carried buffer from end new r
     all_kept e h =
         something (rw (sym e)
         (take_all line_limit (take n (drop from buffer))
         (rw (length-take-le n (drop from buffer) (simp length-drop (omega arith))) h)))
 
-    pub front_kept : n ≡ line_limit → Carried buffer from end new r
+    front_kept : n ≡ line_limit → Carried buffer from end new r
     front_kept e = something (rw e (take-take line_limit (end - from) (drop from buffer) (omega arith)))
+
+    pub kept : n ≡ min (end - from) line_limit → Carried buffer from end new r
+    kept e = elim (dec_lt line_limit (end - from)) [
+      | yes l ↦ front_kept (omega arith)
+      | no l ↦ all_kept (omega arith) (omega arith)
+    ]

@@ -1,6 +1,5 @@
 -- The program `collect` (document 01, "Cases"), over any collector.
-use Rattle.std.specs.Prelude.{ℕ, List, []}
-use Rattle.text_lines.specs.declared.Setting.{Setting}
+use Rattle.std.specs.Prelude.{ℕ, List, [], Option, Some, None}
 use Rattle.text_lines.specs.Reading.{Reading, reception, bad, setting_of, line_reading}
 use Rattle.text_rows.specs.declared.Row.{Row}
 use Rattle.text_rows.specs.Text.{row_text, bad_text}
@@ -23,14 +22,14 @@ pub data Phase (C : Type 0) : Type 0 where
 
 module _ {C : Type 0} (m : AnyCollector C) where
   -- the first line: a level sets the collector; any other is BAD and ends the run
-  abbrev pub after_first : Setting → Phase C
-  after_first (Setting.Level n) = running (m.fresh n)
-  after_first Setting.Bad = over
+  abbrev pub after_first : Option ℕ → Phase C
+  after_first (Some n) = running (m.fresh n)
+  after_first None = over
 
   -- what the first line prints
-  abbrev pub first_text : Setting → List ℕ
-  first_text (Setting.Level n) = []
-  first_text Setting.Bad = bad_text
+  abbrev pub first_text : Option ℕ → List ℕ
+  first_text (Some n) = []
+  first_text None = bad_text
 
   -- a later line: a reception is handed over, and its row is printed; a BAD line is not handed over
   abbrev pub after_line : C → Reading → C

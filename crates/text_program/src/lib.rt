@@ -10,17 +10,10 @@ ghost use Rattle.text_program.specs.Buffer.{Carried};
 pub fn carry(buffer: &mut [u8], from: usize, end: usize) -> usize
     ensures { Carried buffer.old from end buffer.new result }
 {
-    if buffer.len() < end {
+    if buffer.len() < end || end < from {
         return 0;
     }
-    if end < from {
-        return 0;
-    }
-    let n = end - from;
-    if text_lines::LINE_LIMIT < n {
-        return shift(buffer, from, text_lines::LINE_LIMIT);
-    }
-    shift(buffer, from, n)
+    shift(buffer, from, (end - from).min(text_lines::LINE_LIMIT))
 }
 
 fn shift(buffer: &mut [u8], from: usize, n: usize) -> usize

@@ -1,12 +1,15 @@
 -- Laws of texts that are written in blocks, which may meet.
-use mathlib.Core.Path.{◌≡◌, refl, sym, ◌∙◌}
-use mathlib.Core.List.{List, [], ◌∷◌}
+use mathlib.Core.Path.{◌≡◌, refl, sym, ap, ◌∙◌}
+use mathlib.Core.List.{List, [], ◌∷◌, ◌++◌, append_assoc}
 use Prim.Native.Nat.{ℕ, zero, suc, ◌+◌, ◌-◌, ◌*◌, ◌/◌, ◌%◌, ◌≤◌, ◌<◌}
 use native.Mathlib.Omega.{arith}
 use native.Mathlib.Decide.{dec_lt}
 use native.Mathlib.Nat.{add-zero, zero-add}
-use lib.ListN.{length, get_or, set, length-set}
+use borrow.Rule.Slice.PartMut.{put_mid}
+use lib.ListN.{length, get_or, set, take, drop, length-set}
 use lib.Seq.{sets, length-sets, get_or-set_same, get_or-set_other, ext_get_or}
+use Rattle.std.proofs.lemmas.List.{drop-drop}
+use Rattle.std.proofs.lemmas.List.Edits.{sets-eq}
 use Rattle.text_lines.specs.Private.{CopiedPart}
 use Rattle.text_rows.specs.Text.{hex_digit_of, hex_text}
 use Rattle.text_rows.specs.Private.{DigitsOf}
@@ -27,6 +30,13 @@ sets_in (v ∷ vs) l i zero h m =
 sets_in (v ∷ vs) l i (suc k) h m =
     let e : i + suc k ≡ suc i + k = omega arith in
     rw e (sets_in vs (set l i v) (suc i) k (simp length-set (omega arith)) (omega arith))
+
+-- a part that is replaced as a whole
+pub replaced : (s l : List ℕ) (at k : ℕ) → k ≡ length s → at + length s ≤ length l → put_mid at k l s ≡ sets l at s
+replaced s l at k e h =
+    rw e
+    (ap (λ (z : List ℕ). take at l ++ (s ++ z)) (drop-drop (length s) at l)
+    ∙ sym (append_assoc (take at l) s (drop (at + length s) l)) ∙ sym (sets-eq s l at h))
 
 -- ---- a text of which the first p characters are written
 

@@ -1,6 +1,6 @@
 -- The rows of a run in three formats (docs/FORMATS.md, "Text of mooringeye"): as `collect` prints them,
 -- comma-separated, and as JSON with an object on each line.
-use Rattle.std.specs.Prelude.{ℕ, ◌+◌, ◌*◌, cond, List, [], ◌∷◌, ◌++◌}
+use Rattle.std.specs.Prelude.{ℕ, ◌+◌, ◌*◌, List, [], ◌∷◌, ◌++◌, Option, Some, None}
 use Rattle.text_rows.specs.Codes.{codes}
 use Rattle.text_rows.specs.Text.{hex_text, row_behind, bad_text, named_total}
 use Rattle.text_rows.specs.declared.Row.{Row}
@@ -23,11 +23,12 @@ csv_answer Row.Copy = codes ",COPY,"
 csv_answer Row.Loose = codes ",LOOSE,"
 csv_answer (Row.Refused n) = named_total (codes ",REFUSED,") n
 
-unfoldable pub csv_source : Source → List ℕ
-csv_source s = cond s.known (source_after (codes ",") (codes ",") (codes ",") s) (codes ",,,")
+unfoldable pub csv_source : Option Source → List ℕ
+csv_source (Some s) = source_after (codes ",") (codes ",") (codes ",") s
+csv_source None = codes ",,,"
 
 -- time, answer, refusal, telegram, send, txid, rorg, level
-unfoldable pub csv_row : (time : List ℕ) → Row → (heard sent : List ℕ) → Source → List ℕ
+unfoldable pub csv_row : (time : List ℕ) → Row → (heard sent : List ℕ) → Option Source → List ℕ
 csv_row time row heard sent source =
     time ++ csv_answer row ++ hex_after (codes ",") heard ++ hex_after (codes ",") sent ++ csv_source source ++ codes "\n"
 
@@ -44,12 +45,12 @@ unfoldable pub json_send : List ℕ → List ℕ
 json_send [] = codes "\""
 json_send (b ∷ bs) = hex_after (codes "\",\"send\":\"") (b ∷ bs) ++ codes "\""
 
-unfoldable pub json_source : Source → List ℕ
-json_source s =
-    cond s.known (source_after (codes ",\"txid\":\"") (codes "\",\"rorg\":\"") (codes "\",\"level\":") s) []
+unfoldable pub json_source : Option Source → List ℕ
+json_source (Some s) = source_after (codes ",\"txid\":\"") (codes "\",\"rorg\":\"") (codes "\",\"level\":") s
+json_source None = []
 
 -- a row as a JSON object
-unfoldable pub json_row : (time : List ℕ) → Row → (heard sent : List ℕ) → Source → List ℕ
+unfoldable pub json_row : (time : List ℕ) → Row → (heard sent : List ℕ) → Option Source → List ℕ
 json_row time row heard sent source =
     codes "{\"time\":" ++ time ++ json_answer row ++ hex_after (codes ",\"telegram\":\"") heard ++ json_send sent
     ++ json_source source ++ codes "}\n"
@@ -57,8 +58,8 @@ json_row time row heard sent source =
 -- ---- in a format
 
 -- the row of a reception, with the text of its time, its answer, what was received, what is sent for it, and where it
--- came from
-unfoldable pub row_text_in : Format → (time : List ℕ) → Row → (heard sent : List ℕ) → Source → List ℕ
+-- came from, if that is known
+unfoldable pub row_text_in : Format → (time : List ℕ) → Row → (heard sent : List ℕ) → Option Source → List ℕ
 row_text_in Format.Text time row heard sent source = row_behind time row sent
 row_text_in Format.Csv time row heard sent source = csv_row time row heard sent source
 row_text_in Format.Json time row heard sent source = json_row time row heard sent source

@@ -19,10 +19,9 @@ pub enum Format {
     Json,
 }
 
-// Where a telegram came from: TXID, RORG (the inner one of an addressed telegram) and the level, if they are known.
+// Where a telegram came from: TXID, RORG (the inner one of an addressed telegram) and the level.
 #[derive(Clone, Copy)]
 pub struct Source {
-    pub known: bool,
     pub txid: [u8; 4],
     pub rorg: u8,
     pub level: u8,
@@ -46,7 +45,7 @@ pub fn put_row(
     row: Row,
     heard: &[u8],
     sent: &[u8],
-    source: Source,
+    source: Option<Source>,
 ) -> usize
     ensures { PrintedIfFits out.old at
         (longest_row_in (length time.now) (length heard.now) (length sent.now))
@@ -105,7 +104,7 @@ fn write_csv(
     row: Row,
     heard: &[u8],
     sent: &[u8],
-    source: Source,
+    source: Option<Source>,
 ) -> usize
     requires { at + (length time.now + 65 + 2 * (length heard.now + length sent.now)) ≤ length out.old }
     ensures { Printed out.old at
@@ -133,14 +132,14 @@ fn write_csv_answer(out: &mut [u8], at: usize, row: Row) -> usize
     }
 }
 
-fn write_csv_source(out: &mut [u8], at: usize, source: Source) -> usize
+fn write_csv_source(out: &mut [u8], at: usize, source: Option<Source>) -> usize
     requires { at + 33 ≤ length out.old }
     ensures { Printed out.old at (csv_source source) 33 out.new result }
 {
-    if source.known {
-        return write_source(out, at, b",", b",", b",", source);
+    match source {
+        Some(s) => write_source(out, at, b",", b",", b",", s),
+        None => crate::write(out, at, b",,,"),
     }
-    crate::write(out, at, b",,,")
 }
 
 // ---- JSON
@@ -152,7 +151,7 @@ fn write_json(
     row: Row,
     heard: &[u8],
     sent: &[u8],
-    source: Source,
+    source: Option<Source>,
 ) -> usize
     requires { at + longest_row_in (length time.now) (length heard.now) (length sent.now) ≤ length out.old }
     ensures { Printed out.old at
@@ -198,21 +197,21 @@ fn write_json_send(out: &mut [u8], at: usize, sent: &[u8]) -> usize
     crate::write(out, a, b"\"")
 }
 
-fn write_json_source(out: &mut [u8], at: usize, source: Source) -> usize
+fn write_json_source(out: &mut [u8], at: usize, source: Option<Source>) -> usize
     requires { at + 59 ≤ length out.old }
     ensures { Printed out.old at (json_source source) 59 out.new result }
 {
-    if source.known {
-        return write_source(
+    match source {
+        Some(s) => write_source(
             out,
             at,
             b",\"txid\":\"",
             b"\",\"rorg\":\"",
             b"\",\"level\":",
-            source,
-        );
+            s,
+        ),
+        None => at,
     }
-    at
 }
 
 // ---- the parts of both

@@ -4,7 +4,7 @@
 
 pub mod formats;
 
-ghost use Rattle.std.specs.Prelude.{◌≡◌, ◌+◌, ◌*◌, ◌≤◌, ◌<◌, leb, length, drop};
+ghost use Rattle.std.specs.Prelude.{◌≡◌, ◌+◌, ◌*◌, ◌≤◌, leb, length, drop, ◌<◌};
 ghost use Rattle.text_lines.specs.Private.{CopiedPart};
 ghost use Rattle.text_rows.specs.Text.{decimal_text, hex_digit_of, hex_text, answer_text, row_behind, bad_text, named_total, totals_text};
 ghost use Rattle.base_buffers.specs.Printed.{Printed, PrintedIfFits};
@@ -32,6 +32,7 @@ pub const BAD_LENGTH: usize = 4;
 pub const LONGEST_TOTALS: usize = 166;
 
 // Writes the row of a reception after the text of its time, as it was read; `sent` is what KEPT sends.
+// Kept (twin): `formats::put_row` asks for room for the longest row of all formats, so it writes nothing in places where this one writes.
 pub fn put_row(out: &mut [u8], at: usize, time: &[u8], row: Row, sent: &[u8]) -> usize
     ensures { PrintedIfFits out.old at
         (longest_row (length time.now) (length sent.now))
@@ -46,6 +47,7 @@ pub fn put_row(out: &mut [u8], at: usize, time: &[u8], row: Row, sent: &[u8]) ->
 }
 
 // The row of a line that is BAD.
+// Kept (twin): formats::put_bad asks for other room, 17 bytes in place of 4, so it writes nothing at other places.
 pub fn put_bad(out: &mut [u8], at: usize) -> usize
     ensures { PrintedIfFits out.old at 4 bad_text out.new result }
 {
@@ -56,6 +58,7 @@ pub fn put_bad(out: &mut [u8], at: usize) -> usize
 }
 
 // The totals.
+// Kept (group): the struct of the collector that has these six is above this crate, so one of its own would be filled field by field, and is no plainer.
 pub fn put_totals(
     out: &mut [u8],
     at: usize,
@@ -80,17 +83,7 @@ pub fn put_totals(
 fn has_capacity(capacity: usize, at: usize, fixed: usize, bytes: usize) -> bool
     ensures { result ≡ leb (at + (fixed + 2 * bytes)) capacity }
 {
-    if capacity < at {
-        return false;
-    }
-    let left = capacity - at;
-    if left < fixed {
-        return false;
-    }
-    if (left - fixed) / 2 < bytes {
-        return false;
-    }
-    true
+    at <= capacity && fixed <= capacity - at && bytes <= (capacity - at - fixed) / 2
 }
 
 fn write_row(out: &mut [u8], at: usize, time: &[u8], row: Row, sent: &[u8]) -> usize
@@ -182,6 +175,7 @@ fn write(out: &mut [u8], at: usize, s: &[u8]) -> usize
     at + n
 }
 
+// Kept (loop): tried: with `copy_from_slice` here and in `copy_part`, twenty million lines read and written take 0.64 s in place of 0.45 s.
 fn write_each(out: &mut [u8], at: usize, s: &[u8]) -> usize
     requires { at + length s.now ≤ length out.old }
     ensures { Printed out.old at s.now (length s.now) out.new result }
@@ -190,16 +184,6 @@ fn write_each(out: &mut [u8], at: usize, s: &[u8]) -> usize
         out[at + i] = s[i];
     }
     at + s.len()
-}
-
-// Copies eight characters through an array, because the compiler does not know that the two slices do not overlap.
-fn put_eight(out: &mut [u8], at: usize, s: &[u8], from: usize)
-    requires { (from + 8 ≤ length s.now) × (at + 8 ≤ length out.old) }
-    ensures { CopiedPart s.now from 8 out.old at out.new }
-{
-    let mut c = [0u8; 8];
-    text_lines::copy_part(s, from, 8, &mut c, 0);
-    text_lines::copy_part(&c, 0, 8, out, at);
 }
 
 fn write_decimal(out: &mut [u8], at: usize, n: u64) -> usize
@@ -259,6 +243,16 @@ fn write_hex(out: &mut [u8], at: usize, s: &[u8]) -> usize
     at + 2 * n
 }
 
+// Copies eight characters through an array, because the compiler does not know that the two slices do not overlap.
+fn put_eight(out: &mut [u8], at: usize, s: &[u8], from: usize)
+    requires { (from + 8 ≤ length s.now) × (at + 8 ≤ length out.old) }
+    ensures { CopiedPart s.now from 8 out.old at out.new }
+{
+    let mut c = [0u8; 8];
+    text_lines::copy_part(s, from, 8, &mut c, 0);
+    text_lines::copy_part(&c, 0, 8, out, at);
+}
+
 // Writes the digits of eight bytes.
 fn put_digits(out: &mut [u8], at: usize, s: &[u8], from: usize)
     requires { (from + 8 ≤ length s.now) × (at + 16 ≤ length out.old) }
@@ -269,6 +263,7 @@ fn put_digits(out: &mut [u8], at: usize, s: &[u8], from: usize)
 }
 
 // The digits of eight bytes, in an array of its own, because the compiler does not know that the two slices do not overlap.
+// Kept (loop): a count that is a constant makes one vector of all; k is the place of a byte and of its two digits, so iterators in step are no plainer.
 fn digits_of(s: &[u8], from: usize) -> [u8; 16]
     requires { from + 8 ≤ length s.now }
     ensures { DigitsOf s.now from result }
@@ -287,14 +282,11 @@ fn write_pairs(out: &mut [u8], at: usize, s: &[u8]) -> usize
         (hex_text s.now) (2 * length s.now)
         out.new result }
 {
-    let mut i = 0;
     let mut to = at;
-    while i < s.len() {
-        let b = s[i];
-        out[to] = hex_digit(b / 16);
-        out[to + 1] = hex_digit(b % 16);
+    for b in s {
+        out[to] = hex_digit(*b / 16);
+        out[to + 1] = hex_digit(*b % 16);
         to += 2;
-        i += 1;
     }
     to
 }

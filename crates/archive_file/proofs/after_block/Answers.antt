@@ -26,7 +26,7 @@ returns-in-Filling c =
 pub returns-in-Short : goal.returns-in-Short
 returns-in-Short c =
     let c_back3 = c.before.before.before in
-    ap buffer.Wrong c.before-in-Short.ensures ∙ at c_back3.before _ c.in-Short.is
+    ap buffer.Wrong c.saturating_sub.ensures ∙ at c_back3.before _ c.in-Short.is
 
 pub returns-in-Ended : goal.returns-in-Ended
 returns-in-Ended c = at c.before.before.before _ c.in-Ended.is

@@ -1,72 +1,58 @@
--- The goals that a search does not find.
+-- `archive_file::are_written` meets its contract.
 use mathlib.Core.Path.{◌≡◌, sym, ap, ◌∙◌}
 use mathlib.Core.Bool.{Bool, true, false, ◌&&◌}
-use Prim.Native.Nat.{◌+◌, ◌-◌, ◌*◌}
-use native.Mathlib.Omega.{arith}
-use borrow.Author.Rules.{rules}
+use mathlib.Core.List.{List, ◌++◌}
+use Prim.Native.Nat.{ℕ, ◌+◌, ◌-◌}
+use lib.ListN.{length}
 use Rattle.base_lists.specs.Lists.{all}
-use Rattle.block_layout.specs.Cell.{cell_length}
-use Rattle.block_layout.specs.Block.{header_length, block_cell}
-use Rattle.base_buffers.proofs.Segments.{part_length}
 use Rattle.archive_file.specs.Private.{is_written, cells_from}
+use Rattle.archive_file.proofs.Cells.{left_first, left_none, left_some, left_cell, left_next}
 use Rattle.archive_file.proofs.Tested.{cells_first, cells_next, cells_none}
-use Rattle.archive_file.proofs.are_written.Lts as lts
-use Rattle.archive_file.proofs.are_written.Reads as reads
-use Rattle.archive_file.proofs.are_written.Tie as tie
+use Rattle.archive_file.proofs.are_written.Invariants.{Testing}
 use Rattle.archive_file.proofs.are_written.Goals as goal
 
--- states on the way
-abbrev After-is_written : Type 0
-After-is_written = lts.After-is_written tie.the-claims reads.Pre reads.Post goal.the-invariant-loop-i
-    goal.the-decreases-loop-i
+pub loop-cell-init : goal.loop-cell-init
+loop-cell-init c =
+    record {
+      i = 0;
+      cells =
+          left_first c.args.block.now _ c.args.used _ (cc) c.requires.1 c.requires.0 (cc);
+      rest = cells_first _ _;
+    }
 
 pub is_written-requires : goal.is_written-requires
-is_written-requires c =
-    rw c.cell_at.ensures
-    (part_length (header_length + cell_length * c.loop-i.i) cell_length
-    c.args.block.now (omega arith))
+is_written-requires c = c.in-Some.ensures.steps.1.1 ∙ c.loop-cell.invariant.cells.sized
 
--- what was told of cell i
-told : (c : After-is_written) (b : Bool) → c.is_written.result ≡ b
-    → is_written (block_cell c.loop-i.i c.args.block.now) ≡ b
-told c b e = sym (c.is_written.ensures ∙ ap is_written c.cell_at.ensures) ∙ e
+-- a cell and what is left after it decide
+decide : (block all' cell rest : List ℕ) (used size : ℕ) (t : Testing block used size all') (e : all' ≡ cell ++ rest)
+    (l : length cell ≡ size) (b : Bool) → is_written cell ≡ b
+    → all is_written (cells_from block 0 used) ≡ b && all is_written (cells_from block (t.i + 1) (used - (t.i + 1)))
+decide block all' cell rest used size t e l b told =
+    sym t.rest ∙ cells_next block used t.i (left_some block all' used size t.i t.cells cell rest e l)
+    ∙ ap (λ (b : Bool). b && all is_written (cells_from block (t.i + 1) (used - (t.i + 1))))
+    (ap is_written (sym (left_cell block all' used size t.i t.cells cell rest e l)) ∙ told)
 
--- so cell i and what is left after it decide
-decide : (c : After-is_written) (b : Bool) → c.is_written.result ≡ b
-    → all is_written (cells_from c.args.block.now 0 c.args.used)
-    ≡ b
-    && all is_written
-    (cells_from c.args.block.now (c.loop-i.i + 1)
-    (c.args.used - (c.loop-i.i + 1)))
-decide c b e =
-    let a = c.args in
-    sym c.loop-i.invariant.rest ∙ cells_next a.block.now a.used c.loop-i.i (omega arith)
-    ∙ ap (λ (b : Bool). b && all is_written (cells_from a.block.now (c.loop-i.i + 1) (a.used - (c.loop-i.i + 1))))
-    (told c b e)
+pub loop-cell-preserved : goal.loop-cell-preserved
+loop-cell-preserved c =
+    let s = c.in-Some.ensures.steps in
+    let t = c.loop-cell.invariant in
+    record {
+      i = t.i + 1;
+      cells = left_next c.args.block.now _ c.args.used _ t.i t.cells c.in-Some.cell.now _ s.1.0 s.1.1 _ s.0;
+      rest =
+          sym (decide c.args.block.now _ c.in-Some.cell.now _ c.args.used _ t s.1.0 s.1.1 true
+          (sym c.is_written.ensures ∙ c.if-not-is_written.false));
+    }
 
-pub loop-i-preserved : goal.loop-i-preserved
-loop-i-preserved c = record {
-  bounded = omega arith;
-  rest =
-      sym (decide c.before.before true c.if-not-is_written.false);
-}
+pub returns-then-not-is_written : goal.returns-then-not-is_written
+returns-then-not-is_written c =
+    let s = c.in-Some.ensures.steps in
+    sym (decide c.args.block.now _ c.in-Some.cell.now _ c.args.used _ c.loop-cell.invariant s.1.0 s.1.1 false
+    (sym c.is_written.ensures ∙ c.if-not-is_written.true))
 
 pub returns : goal.returns
 returns c =
-    let a = c.args in
-    sym (cells_none a.block.now a.used c.loop-i.i (omega arith)) ∙ c.loop-i.invariant.rest
-
-pub loop-i-init : goal.loop-i-init
-loop-i-init c = record { bounded = omega arith; rest = cells_first _ _ }
-
-pub cell_at-requires : goal.cell_at-requires
-cell_at-requires c = (search rules, omega arith)
-
-pub returns-then-not-is_written : goal.returns-then-not-is_written
-returns-then-not-is_written c = sym (decide c.before.before false c.if-not-is_written.true)
-
-pub overflow_step-i : goal.overflow_step-i
-overflow_step-i c = omega arith
-
-pub loop-i-smaller : goal.loop-i-smaller
-loop-i-smaller c = omega arith
+    let t = c.loop-cell.invariant in
+    sym (cells_none c.args.block.now c.args.used t.i
+    (left_none c.args.block.now _ c.args.used _ t.i t.cells c.in-None.ensures.steps.1.0))
+    ∙ t.rest

@@ -1,18 +1,11 @@
 -- `archive_file::put_row` meets its contract: each return is one case of `put_row_of`.
-use mathlib.Core.Path.{◌≡◌, sym, ap, ◌∙◌}
-use mathlib.Core.Bool.{true}
-use Rattle.radio_erp1.proofs.Checks.{told-valid, told-refused, check_facts}
-use Rattle.archive_model.specs.Append.{stored, is_next}
+use mathlib.Core.Path.{sym, ap, ◌∙◌}
+use Rattle.std.proofs.lemmas.Result.{err_from_is_err_and}
+use Rattle.radio_erp1.proofs.Checks.{check_facts}
+use Rattle.archive_model.specs.Append.{stored}
 use Rattle.archive_file.specs.Archive.{row_of}
 use Rattle.archive_file.proofs.Puts.{next_told, put-size, put_far, put_other, put-invalid, put-done}
-use Rattle.archive_file.proofs.put_row.Lts as lts
-use Rattle.archive_file.proofs.put_row.Reads as reads
-use Rattle.archive_file.proofs.put_row.Tie as tie
 use Rattle.archive_file.proofs.put_row.Goals as goal
-
--- states on the way
-abbrev Else-not-is_next : Type 0
-Else-not-is_next = lts.Else3 tie.the-claims reads.Pre reads.Post
 
 pub returns-then-block-ne-BLOCK_LENGTH : goal.returns-then-block-ne-BLOCK_LENGTH
 returns-then-block-ne-BLOCK_LENGTH c =
@@ -32,30 +25,27 @@ returns-then-not-is_next c =
     (next_told a.n a.block.now c.if-block-ne-BLOCK_LENGTH.false
     (sym c.is_next.ensures ∙ c.if-not-is_next.true))
 
-next : (c : Else-not-is_next) → is_next c.args.n c.args.block.now ≡ true
-next c =
+pub returns-in_err-check : goal.returns-in_err-check
+returns-in_err-check c =
     let a = c.args in
-    next_told a.n a.block.now c.if-block-ne-BLOCK_LENGTH.false
-    (sym c.is_next.ensures ∙ c.if-not-is_next.false)
-
-pub returns-in-Refused : goal.returns-in-Refused
-returns-in-Refused c =
-    let a = c.args in
-    let why = c.in-Refused.why in
-    put-invalid a.block.now a.n (row_of a.bytes.now a.time a.loose)
-    c.if-block-ne-BLOCK_LENGTH.false c.if-n-ge-MAX_ROWS.false (next c.before.before.before) why
-    (told-refused _ _ c.check-checked.ensures why c.in-Refused.is)
+    let p = err_from_is_err_and c.from_residual.result c.from_residual.ensures.1 in
+    rw (p.1, p.2)
+    (put-invalid a.block.now a.n (row_of a.bytes.now a.time a.loose)
+    c.if-block-ne-BLOCK_LENGTH.false c.if-n-ge-MAX_ROWS.false
+    (next_told a.n a.block.now c.if-block-ne-BLOCK_LENGTH.false
+    (sym c.is_next.ensures ∙ c.if-not-is_next.false))
+    c.in_err-check.field-0.0 c.in_err-check.ensures)
 
 pub write_row-requires : goal.write_row-requires
 write_row-requires c =
-    (c.if-block-ne-BLOCK_LENGTH.false, (check_facts _ (told-valid _ _ c.check-checked.ensures c.in_default.is)).high)
+    (c.if-block-ne-BLOCK_LENGTH.false, (check_facts _ (sym c.in_ok-check.ensures)).high)
 
 pub returns : goal.returns
 returns c =
-    let c_back3 = c.before.before.before in
-    let c_back6 = c_back3.before.before.before in
     let a = c.args in
     ap stored c.write_row.ensures
     ∙ put-done a.block.now a.n (row_of a.bytes.now a.time a.loose) c.if-block-ne-BLOCK_LENGTH.false
-    c.if-n-ge-MAX_ROWS.false (next c_back6.before)
-    (told-valid _ _ c.check-checked.ensures c.in_default.is)
+    c.if-n-ge-MAX_ROWS.false
+    (next_told a.n a.block.now c.if-block-ne-BLOCK_LENGTH.false
+    (sym c.is_next.ensures ∙ c.if-not-is_next.false))
+    (sym c.in_ok-check.ensures)

@@ -1,82 +1,51 @@
--- The goals that a search does not find.
-use mathlib.Core.Path.{sym, ap, ◌∙◌}
-use Prim.Native.Nat.{◌+◌, ◌-◌, ◌*◌, ◌/◌}
+-- `archive_file::scan_blocks` meets its contract.
+use mathlib.Core.Path.{◌≡◌, sym, ap, ◌∙◌}
+use mathlib.Core.List.{List}
+use Prim.Native.Nat.{ℕ, ◌<◌}
 use native.Mathlib.Omega.{arith}
-use lib.ListN.{length}
+use lib.ListN.{length, length-append}
 use Rattle.block_layout.specs.Block.{block_length}
-use Rattle.base_buffers.proofs.Segments.{part_length, part-ends}
 use Rattle.archive_model.specs.Buffer as buffer
 use Rattle.archive_file.specs.Archive.{scan_of}
-use Rattle.archive_file.proofs.Scans.{blocks_from, blocks_next, rest_first, rest_next, rest_none}
+use Rattle.archive_file.proofs.Scans.{scanned-count, scan_next, scan_none}
 use Rattle.archive_file.proofs.scan_blocks.Goals as goal
 
-pub loop-i-init : goal.loop-i-init
-loop-i-init c =
-    let a = c.args in
+pub loop-block-init : goal.loop-block-init
+loop-block-init c =
+    let e : c.into_iter-block-iterator.result.rest.now ≡ c.args.piece.now = cc in
     record {
-      bounded = omega arith;
-      ends = omega arith;
-      passed = omega arith;
+      sized = cc;
+      passed = omega (arith, ap length e);
       few = omega arith;
-      rest = ap (buffer.scan_blocks (scan_of a.s)) (rest_first a.piece.now _ (omega arith));
+      rest = ap (λ (l : List ℕ). buffer.scan_blocks (scan_of c.args.s) (buffer.blocks_in l)) e;
     }
 
 pub scan_block-at-requires : goal.scan_block-at-requires
 scan_block-at-requires c =
-    let piece = c.args.piece.now in (
-      ap length (part-ends (block_length * c.loop-i.i) block_length piece)
-          ∙ part_length (block_length * c.loop-i.i) block_length piece (omega arith),
-      omega arith,
-      omega arith,
-    )
+    let s = c.in-Some.ensures.steps.1 in
+    let long : length c.in-Some.block.now ≡ block_length = s.1 ∙ c.loop-block.invariant.sized in
+    (long, omega (arith, ap length s.0, length-append c.in-Some.block.now c.next.new.self.rest.now, long), omega arith)
 
-pub loop-i-preserved : goal.loop-i-preserved
-loop-i-preserved c =
-    let a = c.args in
-    let i = c.loop-i.i in
-    let piece = a.piece.now in
-    let e =
-    c.scan_block-at.ensures.0
-    ∙ ap (buffer.scan_block (scan_of c.loop-i.at)) (part-ends (block_length * i) block_length piece) in
+pub loop-block-preserved : goal.loop-block-preserved
+loop-block-preserved c =
+    let s = c.in-Some.ensures.steps in
+    let block = c.in-Some.block.now in
+    let left = c.next.new.self.rest.now in
+    let long : length block ≡ block_length = s.1.1 ∙ c.loop-block.invariant.sized in
+    let e = c.scan_block-at.ensures.0 in
     record {
-      bounded = omega arith;
-      ends = omega arith;
-      passed = omega (arith, blocks_next _ _ _ e);
+      sized = s.0 ∙ c.loop-block.invariant.sized;
+      passed = omega (arith, ap length s.1.0, length-append block left, long, scanned-count _ _ _ e);
       few = c.scan_block-at.ensures.1;
       rest =
-          ap (λ (s : buffer.Scan). buffer.scan_blocks s
-          (blocks_from piece (i + 1) (length piece / block_length - (i + 1))))
-          e
-          ∙ sym (rest_next piece (scan_of c.loop-i.at) (length piece / block_length) i (omega arith))
-          ∙ c.loop-i.invariant.rest;
+          ap (λ (x : buffer.Scan). buffer.scan_blocks x (buffer.blocks_in left)) e
+          ∙ sym (scan_next block left long (scan_of c.loop-block.at))
+          ∙ sym (ap (λ (l : List ℕ). buffer.scan_blocks (scan_of c.loop-block.at) (buffer.blocks_in l)) s.1.0)
+          ∙ c.loop-block.invariant.rest;
     }
 
 pub returns : goal.returns
 returns c =
-    let at = c.loop-i in
-    sym (rest_none c.args.piece.now (scan_of at.at) _ at.i (omega arith))
-    ∙ at.invariant.rest
-
-pub overflow_mul-i : goal.overflow_mul-i
-overflow_mul-i c = omega arith
-
-pub overflow_mul-i-in-loop-i : goal.overflow_mul-i-in-loop-i
-overflow_mul-i-in-loop-i c = omega arith
-
-pub overflow_add-i : goal.overflow_add-i
-overflow_add-i c = omega arith
-
-pub slice_bounds-scan_block-count : goal.slice_bounds-scan_block-count
-slice_bounds-scan_block-count c = omega arith
-
-pub slice_bounds-scan_block-start : goal.slice_bounds-scan_block-start
-slice_bounds-scan_block-start c = omega arith
-
-pub slice_bounds-scan_block-end : goal.slice_bounds-scan_block-end
-slice_bounds-scan_block-end c = omega arith
-
-pub overflow_step-i : goal.overflow_step-i
-overflow_step-i c = omega arith
-
-pub loop-i-smaller : goal.loop-i-smaller
-loop-i-smaller c = omega arith
+    let left = c.loop-block.block-iterator.rest.now in
+    let few : length left < block_length = omega (arith, c.in-None.ensures.steps.1.0, c.loop-block.invariant.sized) in
+    sym (scan_none (scan_of c.loop-block.at) left few) ∙ c.loop-block.invariant.rest

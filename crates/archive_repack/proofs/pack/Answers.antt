@@ -15,32 +15,28 @@ use Rattle.archive_repack.proofs.pack.Goals as goal
 pub returns-then-not-is_packing : goal.returns-then-not-is_packing
 returns-then-not-is_packing c =
     let a = c.args in
-    c.not_packed.ensures a.pending.now a.out.now a.positions.now
-    ∙ pack_no a.next a.used a.pending.now a.piece.now
+    pack_no a.next a.used a.pending.now a.piece.now
     a.identities.now a.out.now a.positions.now
     (sym c.is_packing.ensures ∙ c.if-not-is_packing.true)
 
 pub returns-then-piece-ne0 : goal.returns-then-piece-ne0
 returns-then-piece-ne0 c =
     let a = c.args in
-    c.not_packed-then-piece-ne0.ensures a.pending.now a.out.now a.positions.now
-    ∙ pack_odd a.next a.used a.pending.now a.piece.now
+    pack_odd a.next a.used a.pending.now a.piece.now
     a.identities.now a.out.now a.positions.now
     (sym c.is_packing.ensures ∙ c.if-not-is_packing.false) c.if-piece-ne0.true
 
 pub returns-then-next-piece-gt-MAX_ROWS : goal.returns-then-next-piece-gt-MAX_ROWS
 returns-then-next-piece-gt-MAX_ROWS c =
     let a = c.args in
-    c.not_packed-then-next-piece-gt-MAX_ROWS.ensures a.pending.now a.out.now a.positions.now
-    ∙ pack_far a.next a.used a.pending.now a.piece.now
+    pack_far a.next a.used a.pending.now a.piece.now
     a.identities.now a.out.now a.positions.now
     (sym c.is_packing.ensures ∙ c.if-not-is_packing.false) c.if-piece-ne0.false c.if-next-piece-gt-MAX_ROWS.true
 
 pub returns-then-identities-gt-MAX_IDENTITIES : goal.returns-then-identities-gt-MAX_IDENTITIES
 returns-then-identities-gt-MAX_IDENTITIES c =
     let a = c.args in
-    c.not_packed-then-identities-gt-MAX_IDENTITIES.ensures a.pending.now a.out.now a.positions.now
-    ∙ pack_identities a.next a.used a.pending.now a.piece.now
+    pack_identities a.next a.used a.pending.now a.piece.now
     a.identities.now a.out.now a.positions.now
     (sym c.is_packing.ensures ∙ c.if-not-is_packing.false) c.if-piece-ne0.false
     (omega arith) c.if-identities-gt-MAX_IDENTITIES.true
@@ -48,8 +44,7 @@ returns-then-identities-gt-MAX_IDENTITIES c =
 pub returns-then-out-piece : goal.returns-then-out-piece
 returns-then-out-piece c =
     let a = c.args in
-    c.not_packed-then-out-piece.ensures a.pending.now a.out.now a.positions.now
-    ∙ pack_short a.next a.used a.pending.now a.piece.now
+    pack_short a.next a.used a.pending.now a.piece.now
     a.identities.now a.out.now a.positions.now
     (sym c.is_packing.ensures ∙ c.if-not-is_packing.false) c.if-piece-ne0.false (omega arith) (omega arith)
     c.if-out-piece.true
@@ -57,8 +52,7 @@ returns-then-out-piece c =
 pub returns-then-not-is_listable : goal.returns-then-not-is_listable
 returns-then-not-is_listable c =
     let a = c.args in
-    c.not_packed-then-not-is_listable.ensures a.pending.now a.out.now a.positions.now
-    ∙ pack_list a.next a.used a.pending.now a.piece.now
+    pack_list a.next a.used a.pending.now a.piece.now
     a.identities.now a.out.now a.positions.now
     (sym c.is_packing.ensures ∙ c.if-not-is_packing.false) c.if-piece-ne0.false
     (omega arith) (omega arith) (omega arith)

@@ -1,157 +1,177 @@
--- The goals that a search does not find.
-use mathlib.Core.Path.{refl, sym, ap, ◌∙◌}
-use Prim.Native.Nat.{◌+◌, ◌-◌, ◌*◌}
+-- `archive_repack::pack_blocks` meets its contract.
+use mathlib.Core.Path.{◌≡◌, refl, sym, ap, ◌∙◌}
+use mathlib.Core.List.{List}
+use Prim.Native.Nat.{ℕ, ◌/◌}
 use native.Mathlib.Omega.{arith}
 use lib.ListN.{length}
-use Rattle.base_buffers.specs.Buffer.{part}
 use Rattle.block_layout.specs.Block.{block_length}
-use Rattle.base_buffers.proofs.Segments.{part_length, part-ends, begun_length, within, lent}
+use Rattle.base_buffers.proofs.Segments.{begun_length, within, lent}
 use Rattle.archive_file.specs.Archive.{sound_count}
 use Rattle.archive_file.proofs.Scans.{sound_le}
 use Rattle.archive_repack_model.specs.Repack.{is_dropped}
-use Rattle.archive_repack_model.specs.Packer.{packing}
-use Rattle.archive_repack.proofs.Walks.{walk_start, walk_turn, walk_packed, walk_put, walk_long, list_start, has_room_lem, list-turn, list_end, block-rows}
+use Rattle.archive_repack_model.specs.Packer.{Packing, packing}
+use Rattle.archive_repack.proofs.Walks.{Walking, Listing, blocks_over, blocks_low, block_is, blocks_more, walk_start, walk_turn, walk_packed, walk_put, walk_long, list_start, has_room_lem, list-turn, list_end, block-rows}
+use Rattle.archive_repack.proofs.pack_blocks.Invariants.{Packed}
 use Rattle.archive_repack.proofs.pack_blocks.Goals as goal
+
+start : (p : Packing) (identities piece out positions : List ℕ) (used size : ℕ) (left pending : List ℕ) (k : ℕ)
+    → size ≡ block_length → k ≡ 0 → left ≡ piece
+    → Walking p identities piece out used (length piece / block_length) 0 0 used pending out
+    → Listing piece positions (length piece / block_length) 0 0 positions
+    → Packed p identities piece out positions used size left pending out positions used 0 0 k
+start p identities piece out positions used size left pending k s z e walking listing =
+    rw z (record {
+      at = record { sized = s; bounded = omega arith; are = e };
+      walking = walking;
+      listing = listing;
+    })
 
 pub loop-k-init : goal.loop-k-init
 loop-k-init c =
     let a = c.args in
-    record {
-      bounded = omega arith;
-      ends = refl;
-      walking =
-          walk_start (packing a.next a.used a.pending.now)
-          a.identities.now a.piece.now a.out.now a.used _ a.used
-          a.pending.now c.requires.0 c.requires.1 (omega arith) refl refl;
-      listing = list_start a.piece.now a.positions.now _ refl;
-    }
+    start (packing a.next a.used a.pending.now) a.identities.now a.piece.now a.out.now a.positions.now a.used _ _
+    a.pending.now _ (cc) (cc) (cc)
+    (walk_start (packing a.next a.used a.pending.now)
+    a.identities.now a.piece.now a.out.now a.used _ a.used
+    a.pending.now c.requires.0 c.requires.1 (omega arith) refl refl)
+    (list_start a.piece.now a.positions.now _ refl)
 
 pub list_block-gone-requires : goal.list_block-gone-requires
 list_block-gone-requires c =
-    let a = c.args in (
+    let a = c.args in
+    let b = c.in-Some.ensures.steps.0.1 in
+    let t = c.loop-k.invariant in
+    let k = c.loop-k.k-iterator.count in (
       c.sound-rows.ensures,
-      λ d. has_room_lem a.piece.now a.positions.now _ c.loop-k.k
-          c.loop-k.gone c.loop-k.positions c.loop-k.invariant.listing (omega arith)
-          c.requires.4 (ap is_dropped (sym (part-ends (block_length * c.loop-k.k) block_length c.args.piece.now)) ∙ d),
+      λ d. has_room_lem a.piece.now a.positions.now _ k
+          c.loop-k.gone c.loop-k.positions t.listing (blocks_low a.piece.now _ _ k t.at c.in-Some.block.now _ b.0 b.1)
+          c.requires.4
+          (ap is_dropped (sym (block_is a.piece.now _ _ k t.at c.in-Some.block.now _ b.0 b.1)) ∙ d),
     )
 
 pub push_cells-total-requires : goal.push_cells-total-requires
 push_cells-total-requires c =
-    let a = c.args in (
-      c.loop-k.invariant.walking.long,
-      c.loop-k.invariant.walking.few,
-      ap length (part-ends (block_length * c.loop-k.k) block_length c.args.piece.now)
-          ∙ part_length (block_length * c.loop-k.k) block_length a.piece.now (omega arith),
-      omega (
-        arith,
-        c.sound-rows.ensures,
-        sound_le
-            (part (block_length * c.loop-k.k)
-            (block_length * c.loop-k.k + block_length - block_length * c.loop-k.k) a.piece.now),
-      ),
+    let t = c.loop-k.invariant in (
+      t.walking.long,
+      t.walking.few,
+      c.in-Some.ensures.steps.0.1.1 ∙ t.at.sized,
+      omega (arith, c.sound-rows.ensures, sound_le c.in-Some.block.now),
       block-rows _ c.sound-rows.result c.sound-rows.ensures,
     )
 
 pub flush-waits-requires : goal.flush-waits-requires
 flush-waits-requires c =
-    let a = c.args in (
-      c.push_cells-total.auto.pending ∙ c.loop-k.invariant.walking.long,
+    let a = c.args in
+    let b = c.in-Some.ensures.steps.0.1 in
+    let t = c.loop-k.invariant in
+    let low = blocks_low a.piece.now _ _ c.loop-k.k-iterator.count t.at c.in-Some.block.now _ b.0 b.1 in (
+      c.push_cells-total.auto.pending ∙ t.walking.long,
       omega (
         arith,
         c.push_cells-total.ensures.few,
-        c.loop-k.invariant.walking.few,
+        t.walking.few,
         c.sound-rows.ensures,
-        sound_le (part (block_length * c.loop-k.k)
-            (block_length * c.loop-k.k + block_length - block_length * c.loop-k.k) a.piece.now),
+        sound_le c.in-Some.block.now,
       ),
-      lent c.loop-k.invariant.walking.begun block_length _ refl (omega (arith, c.loop-k.invariant.walking.room)),
+      lent t.walking.begun block_length _ refl (omega (arith, t.walking.room, low, c.requires.3)),
     )
 
 pub loop-k-preserved : goal.loop-k-preserved
 loop-k-preserved c =
     let a = c.args in
     let piece = a.piece.now in
-    let sound = c.sound-rows.ensures ∙ ap sound_count
-    (part-ends (block_length * c.loop-k.k) block_length c.args.piece.now) in
-    record {
-      bounded = omega arith;
-      ends = refl;
+    let steps = c.in-Some.ensures.steps in
+    let b = steps.0.1 in
+    let t = c.loop-k.invariant in
+    let k = c.loop-k.k-iterator.count in
+    let block = c.in-Some.block.now in
+    let low = blocks_low piece _ _ k t.at block _ b.0 b.1 in
+    let is = block_is piece _ _ k t.at block _ b.0 b.1 in
+    let pushed = rw is at c.push_cells-total.ensures in
+    let listed = rw (steps.1, is) at c.list_block-gone.ensures in
+    rw steps.2 (record {
+      at = blocks_more piece _ _ k t.at block _ b.0 b.1 _ steps.0.0;
       walking =
           walk_turn (packing a.next a.used a.pending.now)
-          a.identities.now piece a.out.now a.used _ c.loop-k.k c.loop-k.put
-          c.loop-k.waits c.loop-k.pending c.loop-k.out c.loop-k.invariant.walking
-          (omega arith) c.sound-rows.result c.push_cells-total.result
-          c.flush-waits.result _ _ _ sound
-          (rw (part-ends (block_length * c.loop-k.k) block_length c.args.piece.now) at c.push_cells-total.ensures)
-          (c.push_cells-total.auto.pending ∙ c.loop-k.invariant.walking.long)
+          a.identities.now piece a.out.now a.used _ k c.loop-k.put
+          c.loop-k.waits c.loop-k.pending c.loop-k.out t.walking
+          low c.sound-rows.result c.push_cells-total.result
+          c.flush-waits.result _ _ _ (c.sound-rows.ensures ∙ ap sound_count is)
+          pushed
+          (c.push_cells-total.auto.pending ∙ t.walking.long)
           c.flush-waits.ensures (c.flush-waits.auto.pending ∙ c.push_cells-total.auto.pending
-          ∙ c.loop-k.invariant.walking.long)
+          ∙ t.walking.long)
           c.flush-waits.auto.full
-          (omega (arith, c.loop-k.invariant.walking.room));
+          (omega (arith, t.walking.room, low, c.requires.3));
       listing =
-          list-turn piece a.positions.now _ c.loop-k.k c.loop-k.gone
-          c.loop-k.positions c.loop-k.invariant.listing (omega arith) c.requires.4 _ _
-          (rw (part-ends (block_length * c.loop-k.k) block_length c.args.piece.now) at c.list_block-gone.ensures);
-    }
+          list-turn piece a.positions.now _ k c.loop-k.gone
+          c.loop-k.positions t.listing low c.requires.4 _ _ listed;
+    })
 
 pub returns : goal.returns
 returns c =
     let a = c.args in
     let p = packing a.next a.used a.pending.now in
-    let w = c.loop-k.invariant.walking in record {
+    let t = c.loop-k.invariant in
+    let k = c.loop-k.k-iterator.count in
+    let over = blocks_over a.piece.now _ _ k t.at c.in-None.ensures.steps.0.1.0 in record {
       walked = record {
-        waits = w.few;
+        waits = t.walking.few;
         packed =
             walk_packed p a.identities.now a.piece.now a.out.now
-            a.used _ c.loop-k.k c.loop-k.put c.loop-k.waits
-            c.loop-k.pending c.loop-k.out w (omega arith);
+            a.used _ k c.loop-k.put c.loop-k.waits
+            c.loop-k.pending c.loop-k.out t.walking over;
         put =
             walk_put p a.identities.now a.piece.now a.out.now
-            a.used _ c.loop-k.k c.loop-k.put c.loop-k.waits
-            c.loop-k.pending c.loop-k.out w (omega arith);
+            a.used _ k c.loop-k.put c.loop-k.waits
+            c.loop-k.pending c.loop-k.out t.walking over;
         long =
             walk_long p a.identities.now a.piece.now a.out.now
-            a.used _ c.loop-k.k c.loop-k.put c.loop-k.waits
-            c.loop-k.pending c.loop-k.out w (omega arith);
+            a.used _ k c.loop-k.put c.loop-k.waits
+            c.loop-k.pending c.loop-k.out t.walking over;
       };
       dropped_value =
-          list_end a.piece.now a.positions.now _ c.loop-k.k c.loop-k.gone
-          c.loop-k.positions c.loop-k.invariant.listing (omega arith);
+          list_end a.piece.now a.positions.now _ k c.loop-k.gone
+          c.loop-k.positions t.listing over;
     }
 
-pub overflow_mul-block : goal.overflow_mul-block
-overflow_mul-block c = omega arith
-
-pub overflow_mul-block-in-loop-k : goal.overflow_mul-block-in-loop-k
-overflow_mul-block-in-loop-k c = omega arith
-
-pub overflow_add-block : goal.overflow_add-block
-overflow_add-block c = omega arith
-
-pub slice_bounds-block-count : goal.slice_bounds-block-count
-slice_bounds-block-count c = omega arith
-
-pub slice_bounds-block-start : goal.slice_bounds-block-start
-slice_bounds-block-start c = omega arith
-
-pub slice_bounds-block-end : goal.slice_bounds-block-end
-slice_bounds-block-end c = omega arith
-
 pub overflow_add-next : goal.overflow_add-next
-overflow_add-next c = omega (
-  arith,
-  c.loop-k.invariant.walking.room,
-  c.requires.2,
-)
+overflow_add-next c =
+    let t = c.loop-k.invariant in
+    omega (arith, t.walking.room, t.at.bounded, c.requires.2)
 
 pub overflow_mul-put : goal.overflow_mul-put
-overflow_mul-put c = omega (arith, c.loop-k.invariant.walking.room)
+overflow_mul-put c =
+    let b = c.in-Some.ensures.steps.0.1 in
+    let t = c.loop-k.invariant in
+    omega (
+      arith,
+      t.walking.room,
+      blocks_low c.args.piece.now _ _ c.loop-k.k-iterator.count t.at c.in-Some.block.now _ b.0 b.1,
+      c.requires.3,
+    )
 
 pub overflow_mul-put-in-loop-k : goal.overflow_mul-put-in-loop-k
-overflow_mul-put-in-loop-k c = omega (arith, c.loop-k.invariant.walking.room)
+overflow_mul-put-in-loop-k c =
+    let b = c.in-Some.ensures.steps.0.1 in
+    let t = c.loop-k.invariant in
+    omega (
+      arith,
+      t.walking.room,
+      blocks_low c.args.piece.now _ _ c.loop-k.k-iterator.count t.at c.in-Some.block.now _ b.0 b.1,
+      c.requires.3,
+    )
 
 pub overflow_add-put : goal.overflow_add-put
-overflow_add-put c = omega (arith, c.loop-k.invariant.walking.room)
+overflow_add-put c =
+    let b = c.in-Some.ensures.steps.0.1 in
+    let t = c.loop-k.invariant in
+    omega (
+      arith,
+      t.walking.room,
+      blocks_low c.args.piece.now _ _ c.loop-k.k-iterator.count t.at c.in-Some.block.now _ b.0 b.1,
+      c.requires.3,
+    )
 
 pub slice_bounds-flush-count : goal.slice_bounds-flush-count
 slice_bounds-flush-count c = omega arith
@@ -160,30 +180,30 @@ pub slice_bounds-flush-start : goal.slice_bounds-flush-start
 slice_bounds-flush-start c = omega arith
 
 pub slice_bounds-flush-end : goal.slice_bounds-flush-end
-slice_bounds-flush-end c = within c.loop-k.invariant.walking.begun _
-    (omega (arith, c.loop-k.invariant.walking.room))
+slice_bounds-flush-end c =
+    let b = c.in-Some.ensures.steps.0.1 in
+    let t = c.loop-k.invariant in
+    let low = blocks_low c.args.piece.now _ _ c.loop-k.k-iterator.count t.at c.in-Some.block.now _ b.0 b.1 in
+    within t.walking.begun _ (omega (arith, t.walking.room, low, c.requires.3))
 
 pub overflow_add-put-in-loop-k : goal.overflow_add-put-in-loop-k
-overflow_add-put-in-loop-k c = omega (
-  arith,
-  c.loop-k.invariant.walking.room,
-  c.push_cells-total.ensures.few,
-  c.loop-k.invariant.walking.few,
-  c.sound-rows.ensures,
-  sound_le (part (block_length * c.loop-k.k)
-      (block_length * c.loop-k.k + block_length
-      - block_length * c.loop-k.k)
-      c.args.piece.now),
-)
-
-pub overflow_step-k : goal.overflow_step-k
-overflow_step-k c = omega arith
-
-pub loop-k-smaller : goal.loop-k-smaller
-loop-k-smaller c = omega arith
+overflow_add-put-in-loop-k c =
+    let t = c.loop-k.invariant in
+    omega (
+      arith,
+      t.walking.room,
+      t.at.bounded,
+      c.push_cells-total.ensures.few,
+      t.walking.few,
+      c.sound-rows.ensures,
+      sound_le c.in-Some.block.now,
+      c.requires.2,
+    )
 
 pub overflow_add-result : goal.overflow_add-result
-overflow_add-result c = omega (arith, c.loop-k.invariant.walking.room, c.requires.2)
+overflow_add-result c =
+    let t = c.loop-k.invariant in
+    omega (arith, t.walking.room, t.at.bounded, c.requires.2)
 
 pub shape_of-pending : goal.shape_of-pending
 shape_of-pending c = omega (arith, c.loop-k.invariant.walking.long, c.requires.0)

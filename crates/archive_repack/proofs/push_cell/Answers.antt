@@ -1,5 +1,5 @@
 -- `archive_repack::push_cell` meets its contract: the cell is left out, or copied behind those that wait.
-use mathlib.Core.Path.{◌≡◌, refl, sym, ap, ◌∙◌}
+use mathlib.Core.Path.{◌≡◌, sym, ap, ◌∙◌}
 use mathlib.Core.Bool.{Bool, true, false, cond}
 use mathlib.Core.List.{List, [], ◌++◌, append-nil}
 use Prim.Native.Nat.{ℕ, ◌+◌, ◌-◌, ◌*◌}
@@ -8,8 +8,7 @@ use lib.Dec.{eqb}
 use lib.ListN.{take}
 use Rattle.base_lists.specs.Lists.{any}
 use Rattle.block_layout.specs.Cell.{cell_length}
-use Rattle.base_buffers.proofs.Buffer.{copied}
-use Rattle.base_buffers.proofs.Segments.{Writing, packed, begin, begun_length, skip, named, lend, lent, so_far}
+use Rattle.base_buffers.proofs.Segments.{Writing, packed, begin, begun_length, skip, named, lend, so_far}
 use Rattle.archive_repack.specs.Private.{kept_cell}
 use Rattle.archive_repack.proofs.Cells.{cell_listed}
 use Rattle.archive_repack.proofs.push_cell.Lts as lts
@@ -19,10 +18,10 @@ use Rattle.archive_repack.proofs.push_cell.Goals as goal
 
 -- states on the way
 abbrev After-is_listed : Type 0
-After-is_listed = lts.After-is_listed tie.the-claims reads.Pre reads.Post
+After-is_listed = lts.After-is_listed tie.the-claims reads.Pre reads.Post tie.handed_clauses
 
 abbrev After-copy : Type 0
-After-copy = lts.After-copy tie.the-claims reads.Pre reads.Post
+After-copy = lts.After-copy_from_slice tie.the-claims reads.Pre reads.Post tie.handed_clauses
 
 told : (c : After-is_listed) (b : Bool) → c.is_listed.result ≡ b
     → kept_cell c.args.identities.now c.args.cell.now
@@ -53,10 +52,8 @@ begun c =
     (ap (λ (n : ℕ). take n a.pending.now) none) in
     packed
     (lend start _ a.cell.now (cell_length * a.at + cell_length)
-    (copied a.cell.now _ _
-    (c.requires.2 ∙ sym (lent start cell_length (cell_length * a.at + cell_length) refl (omega arith)))
-    c.copy.ensures.1)
-    c.copy.auto.out (omega arith) (omega arith))
+    c.copy_from_slice.ensures.after
+    c.copy_from_slice.auto.self (omega arith) (omega arith))
 
 pub returns : goal.returns
 returns c =
@@ -70,8 +67,8 @@ returns c =
           (sym (told c_back3.before.before.before false c.if-is_listed.false));
     }
 
-pub slice_bounds-copy-end : goal.slice_bounds-copy-end
-slice_bounds-copy-end c = omega arith
+pub slice_bounds-copy_from_slice-end : goal.slice_bounds-copy_from_slice-end
+slice_bounds-copy_from_slice-end c = omega arith
 
 pub shape_of-pending : goal.shape_of-pending
 shape_of-pending c = begun_length (begun c.before.before.before).begun

@@ -1,22 +1,23 @@
--- The goals that a search does not find.
+-- `archive_repack::push_cells` meets its contract.
 use mathlib.Core.Path.{sym, ap, ◌∙◌}
 use mathlib.Core.List.{List, ◌++◌, append_assoc, append-nil}
 use Prim.Native.Nat.{ℕ, ◌+◌, ◌-◌, ◌*◌}
 use native.Mathlib.Omega.{arith}
-use lib.ListN.{length, take}
+use lib.ListN.{take}
 use Rattle.block_layout.specs.Cell.{cell_length}
-use Rattle.block_layout.specs.Block.{header_length, block_cell}
-use Rattle.base_buffers.proofs.Segments.{part_length, part-ends}
+use Rattle.block_layout.specs.Block.{block_cell}
 use Rattle.archive_model.specs.Row.{row_in, is_row}
+use Rattle.archive_file.proofs.Cells.{left_first, left_none, left_some, left_cell, left_next}
 use Rattle.archive_repack.specs.Private.{kept_cell, kept_from}
 use Rattle.archive_repack.proofs.Cells.{row_at, kept_first, kept-turn, kept_end}
 use Rattle.archive_repack.proofs.push_cells.Goals as goal
 
-pub loop-i-init : goal.loop-i-init
-loop-i-init c =
+pub loop-cell-init : goal.loop-cell-init
+loop-cell-init c =
     let a = c.args in
     record {
-      bounded = omega arith;
+      i = 0;
+      cells = left_first a.source.now _ a.rows _ (cc) c.requires.3 c.requires.2 (cc);
       few = omega arith;
       long = c.requires.0;
       rest = ap (λ (l : List ℕ). take (cell_length * a.used) a.pending.now ++ l)
@@ -25,69 +26,54 @@ loop-i-init c =
 
 pub push_cell-at-requires : goal.push_cell-at-requires
 push_cell-at-requires c =
-    let source = c.args.source.now in
-    let i = c.loop-i.i in
-    let cell = part-ends (header_length + cell_length * i) cell_length source in (
-      c.loop-i.invariant.long,
-      omega arith,
-      ap length cell ∙ part_length (header_length + cell_length * i) cell_length source (omega arith),
-      ap (λ (l : List ℕ). is_row (row_in l)) cell
-          ∙ row_at c.args.identities.now source c.args.rows i c.requires.4 (omega arith),
+    let a = c.args in
+    let s = c.in-Some.ensures.steps in
+    let t = c.loop-cell.invariant in
+    let low = left_some a.source.now _ a.rows _ t.i t.cells c.in-Some.cell.now _ s.1.0 s.1.1 in (
+      t.long,
+      omega (arith, t.few, low, c.requires.1, c.requires.3),
+      s.1.1 ∙ t.cells.sized,
+      ap (λ (l : List ℕ). is_row (row_in l))
+          (left_cell a.source.now _ a.rows _ t.i t.cells c.in-Some.cell.now _ s.1.0 s.1.1)
+          ∙ row_at a.identities.now a.source.now a.rows t.i c.requires.4 low,
     )
 
-pub loop-i-preserved : goal.loop-i-preserved
-loop-i-preserved c =
-    let ids = c.args.identities.now in
-    let source = c.args.source.now in
-    let i = c.loop-i.i in
-    let rest = kept_from ids source (i + 1) (c.args.rows - (i + 1)) in
-    let front = take (cell_length * c.loop-i.at) c.loop-i.pending in
-    let cell = part-ends (header_length + cell_length * i) cell_length source in
+pub loop-cell-preserved : goal.loop-cell-preserved
+loop-cell-preserved c =
+    let a = c.args in
+    let s = c.in-Some.ensures.steps in
+    let t = c.loop-cell.invariant in
+    let ids = a.identities.now in
+    let source = a.source.now in
+    let cell = c.in-Some.cell.now in
+    let low = left_some source _ a.rows _ t.i t.cells cell _ s.1.0 s.1.1 in
+    let is = left_cell source _ a.rows _ t.i t.cells cell _ s.1.0 s.1.1 in
+    let rest = kept_from ids source (t.i + 1) (a.rows - (t.i + 1)) in
+    let front = take (cell_length * c.loop-cell.at) c.loop-cell.pending in
     let w = c.push_cell-at.ensures in
     record {
-      bounded = omega arith;
-      few = omega (arith, w.few);
-      long = c.push_cell-at.auto.pending ∙ c.loop-i.invariant.long;
-      rest = ap (λ (l : List ℕ). l ++ rest) (w.are ∙ ap (λ (l : List ℕ). front ++ kept_cell ids l) cell)
-          ∙ append_assoc front (kept_cell ids (block_cell i source)) rest
-          ∙ ap (λ (l : List ℕ). front ++ l) (sym (kept-turn ids source c.args.rows i (omega arith)))
-          ∙ c.loop-i.invariant.rest;
+      i = t.i + 1;
+      cells = left_next source _ a.rows _ t.i t.cells cell _ s.1.0 s.1.1 _ s.0;
+      few = omega (arith, w.few, t.few);
+      long = c.push_cell-at.auto.pending ∙ t.long;
+      rest = ap (λ (l : List ℕ). l ++ rest) (w.are ∙ ap (λ (l : List ℕ). front ++ kept_cell ids l) is)
+          ∙ append_assoc front (kept_cell ids (block_cell t.i source)) rest
+          ∙ ap (λ (l : List ℕ). front ++ l) (sym (kept-turn ids source a.rows t.i low))
+          ∙ t.rest;
     }
 
 pub returns : goal.returns
 returns c =
     let a = c.args in
-    let front = take (cell_length * c.loop-i.at) c.loop-i.pending in
+    let t = c.loop-cell.invariant in
+    let end = left_none a.source.now _ a.rows _ t.i t.cells c.in-None.ensures.steps.1.0 in
+    let front = take (cell_length * c.loop-cell.at) c.loop-cell.pending in
     record {
-      few = omega arith;
+      few = omega (arith, t.few, t.cells.bounded);
       are = sym (append-nil front) ∙ ap (λ (l : List ℕ). front ++ l)
-          (sym (kept_end a.identities.now a.source.now a.rows c.loop-i.i (omega arith)))
-          ∙ c.loop-i.invariant.rest;
+          (sym (kept_end a.identities.now a.source.now a.rows t.i end))
+          ∙ t.rest;
     }
 
-pub overflow_mul-start : goal.overflow_mul-start
-overflow_mul-start c = omega arith
-
-pub overflow_add-start : goal.overflow_add-start
-overflow_add-start c = omega arith
-
-pub overflow_add-start-in-loop-i : goal.overflow_add-start-in-loop-i
-overflow_add-start-in-loop-i c = omega arith
-
-pub slice_bounds-push_cell-count : goal.slice_bounds-push_cell-count
-slice_bounds-push_cell-count c = omega arith
-
-pub slice_bounds-push_cell-start : goal.slice_bounds-push_cell-start
-slice_bounds-push_cell-start c = omega arith
-
-pub slice_bounds-push_cell-end : goal.slice_bounds-push_cell-end
-slice_bounds-push_cell-end c = omega arith
-
-pub overflow_step-i : goal.overflow_step-i
-overflow_step-i c = omega arith
-
-pub loop-i-smaller : goal.loop-i-smaller
-loop-i-smaller c = omega arith
-
 pub shape_of-pending : goal.shape_of-pending
-shape_of-pending c = omega arith
+shape_of-pending c = omega (arith, c.loop-cell.invariant.long, c.requires.0)

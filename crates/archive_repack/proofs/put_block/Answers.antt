@@ -1,5 +1,5 @@
 -- `archive_repack::put_block` meets its contract: a step for each part that is lent and each byte that is stored.
-use mathlib.Core.Path.{refl, sym, ◌∙◌}
+use mathlib.Core.Path.{◌∙◌}
 use mathlib.Core.List.{List}
 use Prim.Native.Nat.{ℕ, ◌+◌, ◌/◌}
 use native.Mathlib.Omega.{arith}
@@ -7,8 +7,7 @@ use lib.ListN.{length, replicate}
 use Rattle.block_layout.specs.BigEndian.{be}
 use Rattle.block_layout.specs.Cell.{cell_length}
 use Rattle.block_layout.specs.Block.{header_length, body_length}
-use Rattle.base_buffers.proofs.Buffer.{copied}
-use Rattle.base_buffers.proofs.Segments.{Writing, packed, begin, begun_length, within, lent, store, lend, lend_sized, wipe}
+use Rattle.base_buffers.proofs.Segments.{Writing, packed, begin, begun_length, within, store, lend, lend_sized, wipe}
 use Rattle.block_layout.proofs.Block.{seal_front}
 use Rattle.archive_repack_model.specs.Packer.{cells_block}
 use Rattle.archive_repack.proofs.put_block.Lts as lts
@@ -18,16 +17,16 @@ use Rattle.archive_repack.proofs.put_block.Goals as goal
 
 -- states on the way
 abbrev After-put_number : Type 0
-After-put_number = lts.After-put_number tie.the-claims reads.Pre reads.Post
+After-put_number = lts.After-put_number tie.the-claims reads.Pre reads.Post tie.handed_clauses
 
 abbrev After-clear : Type 0
-After-clear = lts.After-clear tie.the-claims reads.Pre reads.Post
+After-clear = lts.After-clear tie.the-claims reads.Pre reads.Post tie.handed_clauses
 
 abbrev After-copy : Type 0
-After-copy = lts.After-copy tie.the-claims reads.Pre reads.Post
+After-copy = lts.After-copy_from_slice tie.the-claims reads.Pre reads.Post tie.handed_clauses
 
 abbrev After-clear-2 : Type 0
-After-clear-2 = lts.After-clear2 tie.the-claims reads.Pre reads.Post
+After-clear-2 = lts.After-clear2 tie.the-claims reads.Pre reads.Post tie.handed_clauses
 
 abbrev numbered : After-put_number → Writing 5
 numbered c =
@@ -56,8 +55,8 @@ filled c =
     let n = length (cells_of c) in
     packed
     (lend h _ (cells_of c) (header_length + n)
-    (copied (cells_of c) _ _ (sym (lent h n (header_length + n) refl (omega arith))) c.copy.ensures.1)
-    c.copy.auto.out (omega arith) (omega arith))
+    c.copy_from_slice.ensures.after
+    c.copy_from_slice.auto.self (omega arith) (omega arith))
 
 abbrev whole : After-clear-2 → Writing body_length
 whole c =
@@ -77,8 +76,8 @@ returns c =
 pub slice_bounds-clear-end : goal.slice_bounds-clear-end
 slice_bounds-clear-end c = within (numbered c.before.before.before).begun header_length (omega arith)
 
-pub slice_bounds-copy-end : goal.slice_bounds-copy-end
-slice_bounds-copy-end c = within (headed c.before.before.before).begun _ (omega arith)
+pub slice_bounds-copy_from_slice-end : goal.slice_bounds-copy_from_slice-end
+slice_bounds-copy_from_slice-end c = within (headed c.before.before.before).begun _ (omega arith)
 
 pub slice_bounds-clear-end-2 : goal.slice_bounds-clear-end-2
 slice_bounds-clear-end-2 c = within (filled c.before.before.before).begun body_length (omega arith)

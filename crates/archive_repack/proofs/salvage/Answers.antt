@@ -8,22 +8,19 @@ use Rattle.archive_repack.proofs.salvage.Goals as goal
 pub returns-then-not-is_whole : goal.returns-then-not-is_whole
 returns-then-not-is_whole c =
     let a = c.args in
-    c.not_salvaged.ensures a.out.now a.positions.now
-    ∙ salvage_size a.buffer.now a.out.now a.positions.now (sym c.is_whole.ensures
+    salvage_size a.buffer.now a.out.now a.positions.now (sym c.is_whole.ensures
     ∙ c.if-not-is_whole.true)
 
 pub returns-then-out-buffer : goal.returns-then-out-buffer
 returns-then-out-buffer c =
     let a = c.args in
-    c.not_salvaged-then-out-buffer.ensures a.out.now a.positions.now
-    ∙ salvage_short a.buffer.now a.out.now a.positions.now
+    salvage_short a.buffer.now a.out.now a.positions.now
     (sym c.is_whole.ensures ∙ c.if-not-is_whole.false) c.if-out-buffer.true
 
 pub returns-then-not-is_listable : goal.returns-then-not-is_listable
 returns-then-not-is_listable c =
     let a = c.args in
-    c.not_salvaged-then-not-is_listable.ensures a.out.now a.positions.now
-    ∙ salvage_list a.buffer.now a.out.now a.positions.now
+    salvage_list a.buffer.now a.out.now a.positions.now
     (sym c.is_whole.ensures ∙ c.if-not-is_whole.false) (omega arith)
     (sym c.is_listable.ensures ∙ c.if-not-is_listable.true)
 

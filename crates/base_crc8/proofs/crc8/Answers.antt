@@ -1,7 +1,6 @@
 -- `base_crc8::crc8` meets its contract: the two words are what stands before the last eight bytes, and these.
 use native.Mathlib.Omega.{arith}
 use Rattle.base_crc8.proofs.Words.{crc_two}
-use borrow.Author.Rules.{rules}
 use Rattle.base_crc8.proofs.crc8.Goals as goal
 
 pub returns : goal.returns

@@ -1,7 +1,6 @@
 -- `base_crc8::folded` meets its contract.
 use mathlib.Core.Path.{refl}
 use Rattle.base_crc8.specs.Words.{folded_of}
-use borrow.Author.Rules.{rules}
 use Rattle.base_crc8.proofs.folded.Goals as goal
 
 pub returns : goal.returns

@@ -1,5 +1,5 @@
 -- `base_crc8::quad` meets its contract.
-use mathlib.Core.Path.{◌≡◌, sym, ap, ap₂, ◌∙◌}
+use mathlib.Core.Path.{◌≡◌, ap, ◌∙◌}
 use mathlib.Core.List.{List}
 use Prim.Native.Nat.{ℕ, ◌+◌, ◌*◌, ◌≤◌}
 use native.Mathlib.Omega.{arith}
@@ -8,7 +8,6 @@ use lib.ListN.{length, get_or, take, drop, length-drop}
 use lib.Seq.{get_or-drop}
 use Rattle.base_crc8.specs.Words.{EightBits, value_of}
 use Rattle.base_crc8.proofs.Words.{value_four}
-use borrow.Author.Rules.{rules}
 use Rattle.base_crc8.proofs.quad.Goals as goal
 
 four_at : (bs : List ℕ) (f : ℕ) → f + 4 ≤ length bs

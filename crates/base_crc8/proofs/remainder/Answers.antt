@@ -1,7 +1,6 @@
 -- `base_crc8::remainder` meets its contract.
 use mathlib.Core.Path.{refl}
 use Rattle.base_crc8.specs.Words.{more_of, word_remainder}
-use borrow.Author.Rules.{rules}
 use Rattle.base_crc8.proofs.remainder.Goals as goal
 
 pub returns : goal.returns

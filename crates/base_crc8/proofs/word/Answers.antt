@@ -1,12 +1,11 @@
 -- `base_crc8::word` meets its contract.
-use mathlib.Core.Path.{◌≡◌, sym, ap, ◌∙◌}
-use Prim.Native.Nat.{ℕ, ◌+◌, ◌*◌, ◌≤◌}
+use mathlib.Core.Path.{sym, ap, ◌∙◌}
+use Prim.Native.Nat.{◌+◌, ◌*◌, ◌≤◌}
 use native.Mathlib.Omega.{arith}
 use lib.ListN.{length, take, drop, length-drop}
 use lib.Seq.{drop-drop}
 use Rattle.base_crc8.specs.Words.{value_of}
 use Rattle.base_crc8.proofs.Words.{value_eight}
-use borrow.Author.Rules.{rules}
 use Rattle.base_crc8.proofs.word.Goals as goal
 
 pub returns : goal.returns

@@ -1,6 +1,5 @@
 -- `base_crc8_long::crc8_long` meets its contract: the tables pass their test, which antt computes.
 use mathlib.Core.Path.{refl}
-use borrow.Author.Rules.{rules}
 use Rattle.base_lists.specs.Lists.{up_from}
 use Rattle.base_crc8.specs.Crc8.{remainder_of}
 use Rattle.base_crc8_long.specs.Tables.{is_tables}

@@ -1,5 +1,4 @@
 -- `base_crc8_long::eight` meets its contract: each byte is looked up by itself, and the remainder is linear.
-use borrow.Author.Rules.{rules}
 use Rattle.base_crc8_long.proofs.Several.{eight_is}
 use Rattle.base_crc8_long.proofs.eight.Goals as goal
 
@@ -15,4 +14,4 @@ returns c =
       c.power.ensures,
       c.power-r7.ensures,
     )
-    (eight_is c.args.crc c.args.b.now c.requires.1)
+    (eight_is c.args.crc c.args.b.now c.told-b)

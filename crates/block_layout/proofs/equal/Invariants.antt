@@ -1,16 +1,11 @@
 -- `block_layout::equal` meets its contract. The invariant: what was found so far and what is left of both decide the whole; the measure: the bytes
 -- left.
-use mathlib.Core.Path.{◌≡◌, refl, sym, ap, ◌∙◌, subst}
-use mathlib.Core.Bool.{Bool, true, false, ◌&&◌}
+use mathlib.Core.Path.{◌≡◌}
+use mathlib.Core.Bool.{Bool, ◌&&◌}
 use mathlib.Core.List.{List}
-use Prim.Native.Nat.{ℕ, ◌+◌, ◌-◌, ◌≤◌, ◌<◌}
-use native.Mathlib.Numerals.{add-one}
-use native.Mathlib.Omega.{arith}
-use lib.Dec.{T, eqb}
-use lib.ListN.{length, get_or, drop, drop_of_length-le}
-use lib.Seq.{drop-cons}
+use Prim.Native.Nat.{ℕ, ◌-◌, ◌≤◌}
+use lib.ListN.{length, drop}
 use Rattle.base_lists.specs.Lists.{equal}
-use Rattle.base_lists.proofs.Equal.{equal_eq}
 use Rattle.block_layout.proofs.equal.Given as goal
 
 pub record Comparing (a b : List ℕ) (i-end : ℕ) (same : Bool) (i : ℕ) : Type 0 where

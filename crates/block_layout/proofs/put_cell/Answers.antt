@@ -3,7 +3,6 @@ use mathlib.Core.Path.{◌≡◌, sym, ◌∙◌}
 use mathlib.Core.List.{List, [], ◌∷◌, ◌++◌}
 use Prim.Native.Nat.{ℕ, ◌≤◌}
 use native.Mathlib.Omega.{arith}
-use borrow.Author.Rules.{rules}
 use lib.ListN.{length}
 use Rattle.base_buffers.specs.Buffer.{resized}
 use Rattle.block_layout.specs.BigEndian.{be}
@@ -57,19 +56,19 @@ abbrev step3 : After-put_number-2 → Writing 32
 step3 c =
     let c_back3 = c.before.before.before in
     let a = c.args in
-    packed (lend_sized (step2 c_back3.before).begun _ (λ w. be w a.last) 32
+    packed (lend_sized (step2 c_back3.before.before).begun _ (λ w. be w c.from.result) 32
     c.put_number-2.ensures c.put_number-2.auto.out (omega arith) (omega arith))
 
-cell_is : (time : ℕ) (bytes : List ℕ) (last : ℕ) → length bytes ≤ cell_capacity
-    → be 8 time ++ (length bytes ∷ []) ++ resized 21 bytes ++ be 2 last ≡ cell_of time bytes last
+cell_is : (time : ℕ) (bytes : List ℕ) (wide last : ℕ) → wide ≡ last → length bytes ≤ cell_capacity
+    → be 8 time ++ (length bytes ∷ []) ++ resized 21 bytes ++ be 2 wide ≡ cell_of time bytes last
 unfolding cell_of
-cell_is time bytes last h = rw (resized-padded 21 bytes h)
+cell_is time bytes wide last e h = rw (e, resized-padded 21 bytes h)
 
 pub returns : goal.returns
 returns c =
     let a = c.args in
     let fits = c.if-bytes-gt-CELL_CAPACITY.false in
-    done (step3 c.before.before.before).begun (omega arith) ∙ cell_is a.time a.bytes.now a.last fits
+    done (step3 c.before.before.before).begun (omega arith) ∙ cell_is a.time a.bytes.now _ a.last c.from.ensures fits
     ∙ sym (put-fits a.time a.bytes.now a.last a.out.now fits c.if-out-ne-CELL_LENGTH.false)
 
 pub slice_bounds-put_bytes-end : goal.slice_bounds-put_bytes-end

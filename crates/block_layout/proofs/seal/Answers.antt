@@ -1,7 +1,6 @@
 -- `block_layout::seal` meets its contract: the byte that is stored is the CRC of those before it.
 use mathlib.Core.Path.{sym}
 use native.Mathlib.Omega.{arith}
-use borrow.Author.Rules.{rules}
 use Rattle.block_layout.proofs.Block.{seal_not, seal_set}
 use Rattle.block_layout.proofs.seal.Goals as goal
 

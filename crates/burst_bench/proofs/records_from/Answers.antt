@@ -1,5 +1,5 @@
 -- The goals that a search does not find.
-use Rattle.std.proofs.Common.{ℕ, ◌-◌, ◌≤◌, arith, rules}
+use Rattle.std.proofs.Common.{arith}
 use Rattle.burst_bench.proofs.records_from.Goals as goal
 
 pub overflow_add-k : goal.overflow_add-k

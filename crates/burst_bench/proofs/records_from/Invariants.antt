@@ -1,5 +1,5 @@
 -- `burst_bench::records_from` is safe and ends. The loop's invariant: the index is at most 256; the measure is what is left of it.
-use Rattle.std.proofs.Common.{ℕ, ◌-◌, ◌≤◌, arith, rules}
+use Rattle.std.proofs.Common.{ℕ, ◌-◌, ◌≤◌}
 use Rattle.burst_bench.proofs.records_from.Given as goal
 
 pub record Reading (k i : ℕ) : Type 0 where

@@ -5,7 +5,7 @@ use Prim.Native.Nat.{ℕ, ◌-◌, ◌≤◌}
 use lib.ListN.{length}
 use Rattle.collector_model.specs.View.{View}
 use Rattle.collector_model.specs.Burst.{max_burst}
-use Rattle.collector_state.specs.Collector.{Columns, columns, view_in}
+use Rattle.collector_state.specs.Collector.{Columns, columns_lent, SameArrays, view_in}
 use Rattle.c_burst.specs.Bytes.{receptions_in}
 use Rattle.c_burst.proofs.Turns.{Going}
 use Rattle.c_burst.proofs.deliver.Given as goal
@@ -18,11 +18,10 @@ pub record Delivering (setting : ℕ) (v : View) (a₀ : Columns) (moments recor
 
 abbrev pub invariant-loop-i : goal.invariant-loop-i
 invariant-loop-i l =
-    Delivering l.setting (view_in (columns l.initial.times l.initial.lengths l.initial.bytes l.initial.copies)
-    l.initial.s)
-    (columns l.initial.times l.initial.lengths l.initial.bytes l.initial.copies) l.moments l.records
-    l.initial.replies l.i
-    (view_in (columns l.times l.lengths l.bytes l.copies) l.s) (columns l.times l.lengths l.bytes l.copies) l.replies
+    Delivering l.setting (view_in (columns_lent l.fn.state) l.fn.state.summary) (columns_lent l.fn.state)
+    l.moments l.records l.fn.replies l.i
+    (view_in (columns_lent l.state) l.state.summary) (columns_lent l.state) l.replies
+    × SameArrays l.fn.state l.state
 
 abbrev pub decreases-loop-i : goal.decreases-loop-i
 decreases-loop-i l =

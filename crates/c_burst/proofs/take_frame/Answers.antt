@@ -6,9 +6,10 @@ pub put_reply-requires : goal.put_reply-requires
 put_reply-requires c =
     (c.requires.1, sent_few _ _ _ _ c.relay_kept-len.ensures)
 
-pub returns : goal.returns
-returns c =
+pub returns-clause-answers : goal.returns-clause-answers
+returns-clause-answers c =
+    let k = c.admit-answer.ensures.admits in
     answered c.args.setting _ c.requires.2 c.args.frame.now c.requires.0
-    c.args.time _ _ _ c.telegram_in-received.ensures _ c.admit-done.ensures.outcome
-    c.admit-done.ensures.elements _ _ c.relay_kept-len.ensures _
+    c.args.time _ _ _ c.telegram_in-received.ensures _ k.outcome
+    k.elements _ _ c.relay_kept-len.ensures _
     c.put_reply.ensures

@@ -9,14 +9,14 @@ use Rattle.c_burst.proofs.telegram_in.Goals as goal
 pub returns-then-len-gt-MAX_LEN : goal.returns-then-len-gt-MAX_LEN
 returns-then-len-gt-MAX_LEN c =
     rw (lt-ltb 21 (get_or c.args.frame.now 0 0)
-    (omega (arith, c.if-len-gt-MAX_LEN.true, c.usize_of_byte-len.ensures.0)))
+    (omega (arith, c.if-len-gt-MAX_LEN.true, c.from-len.ensures)))
 
 pub returns : goal.returns
 returns c =
-    let n : 1 + c.usize_of_byte-len.result - 1 ≡ get_or c.args.frame.now 0 0 =
-    omega (arith, c.usize_of_byte-len.ensures.0) in
+    let n : 1 + c.from-len.result - 1 ≡ get_or c.args.frame.now 0 0 =
+    omega (arith, c.from-len.ensures) in
     rw (
       le-ltb 21 (get_or c.args.frame.now 0 0)
-          (omega (arith, c.if-len-gt-MAX_LEN.false, c.usize_of_byte-len.ensures.0)),
+          (omega (arith, c.if-len-gt-MAX_LEN.false, c.from-len.ensures)),
       n,
     )

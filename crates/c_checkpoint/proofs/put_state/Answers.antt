@@ -3,7 +3,7 @@ use mathlib.Core.Path.{ap}
 use Rattle.c_collector.specs.State.{arrays}
 use Rattle.c_checkpoint.proofs.put_state.Goals as goal
 
-pub returns : goal.returns
-returns c =
+pub returns-clause-put : goal.returns-clause-put
+returns-clause-put c =
     let s = c.args.c in
     ap (arrays s.times s.lens s.bytes s.copies) c.store.ensures

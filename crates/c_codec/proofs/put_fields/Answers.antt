@@ -1,5 +1,7 @@
 -- `c_codec::put_fields` meets its contract: a step for each byte that is stored and each part that is lent.
-use mathlib.Core.Path.{◌≡◌, ◌∙◌}
+use Rattle.std.specs.Prelude.{IfSome}
+use mathlib.Core.Path.{◌≡◌, ◌∙◌, ap}
+use Rattle.c_layout.specs.Frame.{flag_byte}
 use native.Mathlib.Omega.{arith}
 use borrow.Author.Rules.{rules}
 use lib.ListN.{length}
@@ -40,7 +42,7 @@ abbrev step2 : After-put_bytes → Writing 8
 step2 c =
     let a = c.args in
     packed
-    (lend_sized (step1 c.before.before.before).begun _ (λ w. resized w a.t.destid) 8 c.put_bytes.ensures
+    (lend_sized (step1 c.before.before.before).begun _ (λ w. resized w c.unwrap_or-destid.result) 8 c.put_bytes.ensures
     c.put_bytes.auto.out (omega arith) (omega (arith, c.requires.0)))
 
 abbrev step3 : After-put_bytes-2 → Writing 12
@@ -48,7 +50,7 @@ step3 c =
     let c_back3 = c.before.before.before in
     let a = c.args in
     packed
-    (lend_sized (step2 c_back3.before.before).begun _ (λ w. resized w a.t.txid) 12 c.put_bytes-2.ensures
+    (lend_sized (step2 c_back3.before.before.before).begun _ (λ w. resized w a.t.txid) 12 c.put_bytes-2.ensures
     c.put_bytes-2.auto.out (omega arith) (omega (arith, c.requires.0)))
 
 abbrev step4 : After-put_bytes-3 → Writing 26
@@ -56,18 +58,18 @@ step4 c =
     let c_back3 = c.before.before.before in
     let a = c.args in
     packed
-    (lend_sized (step3 c_back3.before.before).begun _ (λ w. resized w a.t.payload) 26 c.put_bytes-3.ensures
+    (lend_sized (step3 c_back3.before.before.before).begun _ (λ w. resized w a.t.payload) 26 c.put_bytes-3.ensures
     c.put_bytes-3.auto.out (omega arith) (omega (arith, c.requires.0)))
 
 pub returns : goal.returns
 returns c =
     let t = c.args.t in
-    let destid : length t.destid ≡ 4 = search rules in
+    let destid : IfSome t.destid (λ d. length d ≡ 4) = search rules in
     let txid : length t.txid ≡ 4 = search rules in
     let payload : length t.payload ≡ 14 = search rules in
     done (step4 c.before.before.before).begun c.requires.0
-    ∙ fields_are t _
-    c.flag_byte.ensures
+    ∙ fields_are t _ _
+    (c.flag_byte.ensures ∙ ap flag_byte c.is_some.ensures) c.unwrap_or-destid.ensures
     (record { payload = payload; destid = destid; txid = txid })
 
 pub slice_bounds-put_bytes-end : goal.slice_bounds-put_bytes-end

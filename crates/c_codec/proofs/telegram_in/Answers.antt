@@ -1,12 +1,15 @@
--- `c_codec::telegram_in` meets its contract.
-use native.Mathlib.Omega.{arith}
+-- `c_codec::telegram_in` meets its contract: DESTID is there where the flag is not 0.
+use Rattle.std.proofs.Common.{◌≡◌, ◌∙◌, Bool, true, false, cond, not, List, ℕ, Some, None, refl}
+use Rattle.std.specs.Bool.{then_some}
 use Rattle.c_codec.specs.Fields.{telegram_in}
 use Rattle.c_codec.proofs.telegram_in.Goals as goal
+
+flagged : (zero : Bool) (d : List ℕ) → then_some (not zero) d ≡ cond zero None (Some d)
+flagged true d = refl
+flagged false d = refl
 
 pub returns : goal.returns
 unfolding telegram_in
 returns c =
-    rw (c.payload_in-payload.ensures, c.id_in-txid.ensures, c.id_in-destid.ensures)
-
-pub overflow_cast-result : goal.overflow_cast-result
-overflow_cast-result c = omega (arith, c.shared_slice_known-3-1.given 1)
+    let destid = c.then_some.ensures ∙ flagged _ c.array_of-destid.result in
+    cc

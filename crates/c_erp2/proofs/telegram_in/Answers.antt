@@ -1,12 +1,19 @@
 -- `c_erp2::telegram_in` meets its contract.
-use native.Mathlib.Omega.{arith}
 use Rattle.c_erp2.specs.Fields.{telegram_in}
+use Rattle.radio_erp2.proofs.Parts.{then_cond}
 use Rattle.c_erp2.proofs.telegram_in.Goals as goal
 
 pub returns : goal.returns
 unfolding telegram_in
 returns c =
-    rw (c.payload_in-payload.ensures, c.optional_in-optional.ensures)
-
-pub overflow_cast-result : goal.overflow_cast-result
-overflow_cast-result c = omega (arith, c.shared_slice_known-12-1.given 10)
+    let payload = (rw c.unwrap.ensures at c.try_into.ensures.1).same in
+    let optional = (rw c.unwrap-2.ensures at c.try_into-2.ensures.1).same in
+    simp (
+      c.then_some.ensures,
+      c.then_some-2.ensures,
+      c.then_some-3.ensures,
+      then_cond,
+      payload,
+      optional,
+      c.from.ensures,
+    )

@@ -8,14 +8,8 @@ use Rattle.collector_state.specs.declared.Summary.{Summary}
 use Rattle.collector_state.specs.Collector.{columns, view_in, view_of}
 use Rattle.collector_state.specs.Admission.{collector_of}
 use Rattle.collector_state.proofs.Counts.{state-fits}
-use Rattle.c_lines.proofs.summary_of.Lts as lts
-use Rattle.c_lines.proofs.summary_of.Reads as reads
-use Rattle.c_lines.proofs.summary_of.Tie as tie
 use Rattle.c_lines.proofs.summary_of.Goals as goal
-
--- states on the way
-abbrev After-summary_in : Type 0
-After-summary_in = lts.After-summary_in tie.the-claims reads.Pre reads.Post
+use Rattle.c_lines.proofs.summary_of.Goals.{After-summary_in}
 
 latest : (c : After-summary_in) → c.summary_in.result.latest < 2 ^ 64
 latest c = search rules
@@ -25,12 +19,13 @@ received c = search rules
 
 pub returns : goal.returns
 unfolding view_of
-returns c = (
-  c.summary_in.ensures.0,
-  λ times lengths bytes.
-      let copies = c.args.copies.now in
-      let a = columns times lengths bytes copies in
-      subst (λ (s : Summary). Fits (view_in a s)) c.summary_in.ensures.0
-      (state-fits (collector_of a c.summary_in.result) (latest c.before) (received c.before)
-      (λ i. omega (arith, c.shared_slice_known-1.given i))),
-)
+returns c =
+    let k = (goal.at.returns c).After-summary_in in (
+      c.summary_in.ensures.0,
+      λ times lengths bytes.
+          let copies = c.args.copies.now in
+          let a = columns times lengths bytes copies in
+          subst (λ (s : Summary). Fits (view_in a s)) c.summary_in.ensures.0
+          (state-fits (collector_of a c.summary_in.result) (latest k) (received k)
+          (λ i. omega (arith, c.type_inv.copies i))),
+    )

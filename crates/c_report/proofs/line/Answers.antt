@@ -1,35 +1,32 @@
 -- `c_report::line` meets its contract: beside a refusal no number is written.
-use mathlib.Core.Path.{◌≡◌, ◌∙◌, ap}
+use mathlib.Core.Path.{◌≡◌, ◌∙◌, sym, ap}
+use Rattle.std.specs.Prelude.{Result}
+use Rattle.base_refusal.specs.Number.{number_of}
+use Rattle.base_refusal.specs.declared.Refusal.{Refusal}
+use Rattle.base_refusal.proofs.Numbers.{refused-number}
 use Rattle.archive_report_model.specs.Report as model
-use Rattle.archive_report.specs.Lines.{line_numbers}
+use Rattle.archive_report.specs.declared.Line.{Line}
 use Rattle.archive_report.specs.Report.{line_result}
-use Rattle.c_report.specs.Calls.{report_at}
-use Rattle.c_report.proofs.Calls.{line-not, line-done}
-use Rattle.c_report.proofs.line.Lts as lts
-use Rattle.c_report.proofs.line.Reads as reads
-use Rattle.c_report.proofs.line.Tie as tie
+use Rattle.c_report.specs.Calls.{report_at, answered_line}
+use Rattle.c_report.proofs.Calls.{line-not}
+use Rattle.c_report.proofs.line.Goals.{After-line}
 use Rattle.c_report.proofs.line.Goals as goal
 
--- states on the way
-abbrev After-looked_number-looked : Type 0
-After-looked_number-looked = lts.After-looked_number tie.the-claims reads.Pre reads.Post
+-- what is answered for a line
+told : (c : After-line) (r : Result Line Refusal) → c.line.result ≡ r
+    → answered_line (line_result r) c.args.line.now
+    ≡ answered_line (model.line_of_report (report_at c.args.numbers.now c.args.lines.now) c.args.i) c.args.line.now
+told c r e =
+    ap (λ (a : model.LineAnswer). answered_line a c.args.line.now)
+    (ap line_result (sym e) ∙ c.line.ensures
+    ∙ ap (λ (s : model.Report). model.line_of_report s c.args.i) c.report_in.ensures.0)
 
-abbrev expected : After-looked_number-looked → model.LineAnswer
-expected c = let a = c.args in model.line_of_report (report_at a.numbers.now a.lines.now) a.i
+pub returns-in-Ok : goal.returns-in-Ok
+returns-in-Ok c = told c.before.before _ c.in-Ok.is
 
-is : (c : After-looked_number-looked) → line_result c.line-found.result ≡ expected c
-is c =
-    c.line-found.ensures
-    ∙ ap (λ (r : model.Report). model.line_of_report r c.args.i) c.report_in.ensures.0
-
-number : (c : After-looked_number-looked) → c.looked_number-looked.result ≡ (expected c).number
-number c = c.looked_number-looked.ensures ∙ ap (λ (a : model.LineAnswer). a.number) (is c)
-
-pub returns-then-looked-ne0 : goal.returns-then-looked-ne0
-returns-then-looked-ne0 c =
-    line-not c.looked_number-looked.result (expected c.before) c.args.line.now (number c.before) c.if-looked-ne0.true
-
-pub returns : goal.returns
-returns c =
-    line-done c.looked_number-looked.result (expected c.before.before) c.args.line.now (number c.before.before)
-    c.if-looked-ne0.false _ (ap (λ (a : model.LineAnswer). line_numbers a.line) (is c.before.before))
+pub returns-in-Err : goal.returns-in-Err
+returns-in-Err c =
+    line-not c.number.result (record { number = number_of c.in-Err.why; line = model.no_line }) c.args.line.now
+    c.number.ensures
+    (λ z. refused-number c.in-Err.why (sym c.number.ensures ∙ z))
+    ∙ told c.before.before _ c.in-Err.is

@@ -7,7 +7,7 @@ use Rattle.block_layout.specs.Cell.{cell_length}
 use Rattle.base_buffers.proofs.Segments.{Begun}
 use Rattle.collector_model.specs.Image.{entry_cell}
 use Rattle.collector_checkpoint.specs.Private.{entries_from}
-use Rattle.collector_state.specs.Collector.{Columns, columns}
+use Rattle.collector_state.specs.Collector.{Columns, columns_held}
 use Rattle.collector_checkpoint.proofs.put_cells.Given as goal
 
 unfoldable pub cells : Columns → ℕ → ℕ → List (List ℕ)
@@ -19,7 +19,7 @@ pub record Putting (out₀ : List ℕ) (a : Columns) (first used : ℕ) (out : L
 
 abbrev pub invariant-loop-i : goal.invariant-loop-i
 invariant-loop-i l =
-    Putting l.initial.out (columns l.times l.lens l.bytes l.copies) l.first l.used l.out l.i
+    Putting l.initial.out (columns_held l.state) l.first l.used l.out l.i
 
 abbrev pub decreases-loop-i : goal.decreases-loop-i
 decreases-loop-i l = l.used - l.i

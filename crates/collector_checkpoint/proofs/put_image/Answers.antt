@@ -13,28 +13,28 @@ use Rattle.collector_checkpoint.specs.Private.{block_with}
 use Rattle.collector_checkpoint.proofs.put_image.Invariants.{blocks}
 use Rattle.collector_checkpoint.proofs.put_image.Goals as goal
 
-block_of : (firsts seconds : List ℕ) (l : List Entry) (k : ℕ) → k < 5
-    → block_with k (get_or firsts k 0) (get_or seconds k 0) l ≡ get_or (blocks firsts seconds l) k []
+block_of : (numbers : List (ℕ × ℕ)) (l : List Entry) (k : ℕ) → k < 5
+    → block_with k (get_or numbers k (0, 0)).0 (get_or numbers k (0, 0)).1 l ≡ get_or (blocks numbers l) k []
 unfolding blocks
-block_of firsts seconds l zero h = refl
-block_of firsts seconds l (suc zero) h = refl
-block_of firsts seconds l (suc (suc zero)) h = refl
-block_of firsts seconds l (suc (suc (suc zero))) h = refl
-block_of firsts seconds l (suc (suc (suc (suc zero)))) h = refl
-block_of firsts seconds l (suc (suc (suc (suc (suc k))))) h = absurd (omega arith)
+block_of numbers l zero h = refl
+block_of numbers l (suc zero) h = refl
+block_of numbers l (suc (suc zero)) h = refl
+block_of numbers l (suc (suc (suc zero))) h = refl
+block_of numbers l (suc (suc (suc (suc zero)))) h = refl
+block_of numbers l (suc (suc (suc (suc (suc k))))) h = absurd (omega arith)
 
 -- a turn: p is what the block writer ensures, and q what it keeps
-one_more : (firsts seconds : List ℕ) (l : List Entry) {orig xs : List ℕ} (k : ℕ) (ys : List ℕ)
-    → Begun orig (flatten (take k (blocks firsts seconds l))) (block_length * k) xs
-    → k < 5 → ys ≡ block_with k (get_or firsts k 0) (get_or seconds k 0) l
+one_more : (numbers : List (ℕ × ℕ)) (l : List Entry) {orig xs : List ℕ} (k : ℕ) (ys : List ℕ)
+    → Begun orig (flatten (take k (blocks numbers l))) (block_length * k) xs
+    → k < 5 → ys ≡ block_with k (get_or numbers k (0, 0)).0 (get_or numbers k (0, 0)).1 l
     → length ys ≡ length (part (block_length * k) (block_length * k + block_length - block_length * k) xs)
     → block_length * 5 ≤ length orig
-    → Begun orig (flatten (take (k + 1) (blocks firsts seconds l))) (block_length * (k + 1))
+    → Begun orig (flatten (take (k + 1) (blocks numbers l))) (block_length * (k + 1))
     (take (block_length * k) xs
     ++ (ys ++ drop (block_length * k + block_length - block_length * k) (drop (block_length * k) xs)))
 unfolding blocks
-one_more firsts seconds l k ys b h p q room =
-    turn _ _ block_length k _ ys b h (p ∙ block_of firsts seconds l k h) q (omega arith)
+one_more numbers l k ys b h p q room =
+    turn _ _ block_length k _ ys b h (p ∙ block_of numbers l k h) q (omega arith)
 
 pub loop-k-init : goal.loop-k-init
 unfolding flatten
@@ -49,7 +49,7 @@ loop-k-preserved c =
     record {
       bounded = omega arith;
       begun =
-          one_more _ _ _ c.loop-k.k _ c.loop-k.invariant.begun (omega arith)
+          one_more _ _ c.loop-k.k _ c.loop-k.invariant.begun (omega arith)
           c.put_block.ensures c.put_block.auto.out (omega arith);
     }
 
@@ -57,41 +57,8 @@ pub returns : goal.returns
 unfolding image_with blocks image_block
 returns c = (turned _ _ block_length 5 _ _ c.loop-k.invariant.begun (omega arith) refl).is
 
-pub overflow_mul-k : goal.overflow_mul-k
-overflow_mul-k c = omega arith
-
-pub overflow_mul-k-in-loop-k : goal.overflow_mul-k-in-loop-k
-overflow_mul-k-in-loop-k c = omega arith
-
-pub overflow_add-k : goal.overflow_add-k
-overflow_add-k c = omega arith
-
-pub slice_bounds-put_block-count : goal.slice_bounds-put_block-count
-slice_bounds-put_block-count c = omega arith
-
-pub slice_bounds-put_block-start : goal.slice_bounds-put_block-start
-slice_bounds-put_block-start c = omega arith
-
 pub slice_bounds-put_block-end : goal.slice_bounds-put_block-end
 slice_bounds-put_block-end c = within c.loop-k.invariant.begun _ (omega arith)
-
-pub offset_bounds-firsts-k : goal.offset_bounds-firsts-k
-offset_bounds-firsts-k c = omega arith
-
-pub bounds-firsts-k : goal.bounds-firsts-k
-bounds-firsts-k c = omega arith
-
-pub offset_bounds-seconds-k : goal.offset_bounds-seconds-k
-offset_bounds-seconds-k c = omega arith
-
-pub bounds-seconds-k : goal.bounds-seconds-k
-bounds-seconds-k c = omega arith
-
-pub overflow_step-k : goal.overflow_step-k
-overflow_step-k c = omega arith
-
-pub loop-k-smaller : goal.loop-k-smaller
-loop-k-smaller c = omega arith
 
 pub shape_of-out : goal.shape_of-out
 shape_of-out c = begun_length c.loop-k.invariant.begun

@@ -24,44 +24,17 @@ pub returns : goal.returns
 returns c =
     reading_all _ _ c.requires.4 c.requires.5 _ c.loop-i.i _ c.loop-i.invariant (omega arith)
 
-pub offset_bounds-times-i : goal.offset_bounds-times-i
-offset_bounds-times-i c = omega arith
-
 pub bounds-times-i : goal.bounds-times-i
 bounds-times-i c = within c.loop-i.invariant.times _ (omega arith)
 
 pub bounds-lens-i : goal.bounds-lens-i
 bounds-lens-i c = within c.loop-i.invariant.lens _ (omega arith)
 
-pub offset_bounds-copies-i : goal.offset_bounds-copies-i
-offset_bounds-copies-i c = omega arith
-
 pub bounds-copies-i : goal.bounds-copies-i
 bounds-copies-i c = within c.loop-i.invariant.copies _ (omega arith)
 
-pub overflow_mul-i : goal.overflow_mul-i
-overflow_mul-i c = omega arith
-
-pub overflow_mul-i-in-loop-i : goal.overflow_mul-i-in-loop-i
-overflow_mul-i-in-loop-i c = omega arith
-
-pub overflow_add-i : goal.overflow_add-i
-overflow_add-i c = omega arith
-
-pub slice_bounds-copy_field-count : goal.slice_bounds-copy_field-count
-slice_bounds-copy_field-count c = omega arith
-
-pub slice_bounds-copy_field-start : goal.slice_bounds-copy_field-start
-slice_bounds-copy_field-start c = omega arith
-
 pub slice_bounds-copy_field-end : goal.slice_bounds-copy_field-end
 slice_bounds-copy_field-end c = within c.loop-i.invariant.bytes _ (omega arith)
-
-pub overflow_step-i : goal.overflow_step-i
-overflow_step-i c = omega arith
-
-pub loop-i-smaller : goal.loop-i-smaller
-loop-i-smaller c = omega arith
 
 pub shape_of-times : goal.shape_of-times
 shape_of-times c = begun_length c.loop-i.invariant.times

@@ -2,13 +2,11 @@
 use mathlib.Core.Path.{◌≡◌, refl, sym, ◌∙◌}
 use Prim.Native.Nat.{◌+◌, ◌-◌, ◌*◌}
 use native.Mathlib.Omega.{arith}
-use borrow.Author.Tests.{not-true, not-false}
 use lib.ListN.{length}
 use Rattle.base_buffers.specs.Buffer.{part}
 use Rattle.base_buffers.proofs.Segments.{part_length}
 use Rattle.block_layout.proofs.Cell.{put-fits, cell_length_lem}
 use Rattle.collector_closings.proofs.Cells.{lent-printed}
-use borrow.Author.Rules.{rules}
 use Rattle.collector_closings.proofs.put_entry.Goals as goal
 
 pub returns-then-not-is_past : goal.returns-then-not-is_past

@@ -1,21 +1,11 @@
 -- `collector_closings::put_past` meets its contract. The invariant: those of the first i telegrams that are no longer open are
 -- written. The measure: the telegrams left.
-use mathlib.Core.Path.{◌≡◌, refl}
 use mathlib.Core.List.{List}
-use Prim.Native.Nat.{ℕ, ◌+◌, ◌-◌, ◌*◌, ◌≤◌}
-use native.Mathlib.Omega.{arith}
-use native.Mathlib.Nat.{zero-add}
-use lib.ListN.{length, get_or}
-use Rattle.radio_erp1.specs.Subtelegram.{max_length}
-use Rattle.base_buffers.specs.Buffer.{part, resized}
+use Prim.Native.Nat.{ℕ, ◌-◌, ◌*◌, ◌≤◌}
 use Rattle.base_buffers.specs.Printed.{Printed}
-use Rattle.base_buffers.proofs.Stores.{then, loosened}
-use Rattle.base_buffers.proofs.Buffer.{resized-length}
 use Rattle.history_rows.specs.Closings.{closed_at}
-use Rattle.collector_state.specs.Collector.{Columns, columns, entries_at}
-use Rattle.collector_state.proofs.Arrays.{bytes-shown}
+use Rattle.collector_state.specs.Collector.{Columns, columns_held, entries_at}
 use Rattle.collector_closings.specs.Cells.{entry_cells}
-use Rattle.collector_closings.proofs.Cells.{none_past, one_past, printed-length}
 use Rattle.collector_closings.proofs.put_past.Given as goal
 
 pub record Putting (a : Columns) (time n count : ℕ) (closed₀ closed : List ℕ) (k i : ℕ) : Type 0 where
@@ -24,7 +14,7 @@ pub record Putting (a : Columns) (time n count : ℕ) (closed₀ closed : List �
 
 abbrev pub invariant-loop-i : goal.invariant-loop-i
 invariant-loop-i l =
-    Putting (columns l.times l.lens l.bytes l.copies) l.time l.n l.count l.initial.closed l.closed l.k l.i
+    Putting (columns_held l.state) l.time l.n l.state.summary.count l.initial.closed l.closed l.k l.i
 
 abbrev pub decreases-loop-i : goal.decreases-loop-i
-decreases-loop-i l = l.count - l.i
+decreases-loop-i l = l.state.summary.count - l.i

@@ -23,6 +23,6 @@ returns c =
     c.last_block-last.ensures c.numbers_of-numbers.ensures in
     record {
       lines = lines_are a.log.now c.taken-text.ensures l;
-      bytes = ap (λ (w : Written). w.output) c.write.ensures
+      bytes = ap (λ (w : Written). w.output) c.write-lawful.ensures
           ∙ ap (λ (k : Kept). (write_of k a.state.now).output) made;
     }

@@ -4,7 +4,7 @@ use Prim.Native.Nat.{◌-◌, ◌^◌, ◌<◌}
 use native.Mathlib.Omega.{arith}
 use lib.ListN.{length, drop_of_length-le}
 use borrow.Author.Rules.{rules}
-use Rattle.c_collector.specs.State.{arrays}
+use Rattle.c_collector.specs.State.{arrays_in}
 use Rattle.history_log.proofs.Turning.{begins, closes, closes-state, last_went}
 use Rattle.history_log.proofs.take_last.Lts as lts
 use Rattle.history_log.proofs.take_last.Reads as reads
@@ -18,7 +18,7 @@ Start = lts.Start tie.the-claims reads.Pre reads.Post
 pub returns-then-line-eq0 : goal.returns-then-line-eq0
 returns-then-line-eq0 c =
     let a = c.args in
-    let lent = arrays a.times.now a.lengths.now a.bytes.now a.copies.now a.numbers.now in
+    let lent = arrays_in a.state.now in
     let none = drop_of_length-le a.line.now {i = 0} (omega (arith, c.if-line-eq0.true)) in
     record {
       passed = closes (begins c.requires.0) none;
@@ -44,8 +44,7 @@ overflow_add-result c =
     let c_back12 = c_back9.before.before.before in
     let c_back15 = c_back12.before.before.before in
     let c_back18 = c_back15.before.before.before in
-    let c_back21 = c_back18.before.before.before in
-    omega (arith, c.take_some-t.ensures.few, c.requires.0.callable.room.rows, small c_back21.before)
+    omega (arith, c.take_some-t.ensures.few, c.requires.0.callable.room.rows, small c_back18)
 
 pub overflow_add-result-2 : goal.overflow_add-result-2
 overflow_add-result-2 c =
@@ -55,8 +54,7 @@ overflow_add-result-2 c =
     let c_back12 = c_back9.before.before.before in
     let c_back15 = c_back12.before.before.before in
     let c_back18 = c_back15.before.before.before in
-    let c_back21 = c_back18.before.before.before in
-    omega (arith, c.take_some-t.ensures.brief, c.requires.0.callable.room.closings, heard-small c_back21.before.before)
+    omega (arith, c.take_some-t.ensures.brief, c.requires.0.callable.room.closings, heard-small c_back18.before)
 
 pub returns : goal.returns
 returns c =

@@ -9,7 +9,7 @@ use borrow.Author.Rules.{rules}
 use borrow.Author.Tests.{not-true, not-false}
 use Rattle.base_buffers.proofs.Stores.{take_rest}
 use Rattle.collector_model.proofs.Invariant.{Good, good_of, good_acceptable}
-use Rattle.c_collector.specs.State.{Arrays, arrays, state_at}
+use Rattle.c_collector.specs.State.{Arrays, arrays_in, state_at}
 use Rattle.history_log.specs.Private.{Outputs, outputs, phase_at, Turned}
 use Rattle.history_log.proofs.Turning.{Going, begins, ends, too_full, goes_on, stays_good, ready}
 use Rattle.history_log.proofs.take_lines.Lts as lts
@@ -18,9 +18,6 @@ use Rattle.history_log.proofs.take_lines.Tie as tie
 use Rattle.history_log.proofs.take_lines.Goals as goal
 
 -- states on the way
-abbrev At-loop-t : Type 0
-At-loop-t = lts.At-loop tie.the-claims reads.Pre reads.Post goal.the-invariant-loop-t goal.the-decreases-loop-t
-
 abbrev After-take_some-t : Type 0
 After-take_some-t = lts.After-take_some tie.the-claims reads.Pre reads.Post goal.the-invariant-loop-t
     goal.the-decreases-loop-t
@@ -38,16 +35,10 @@ pub loop-t-init : goal.loop-t-init
 loop-t-init c =
     record { going = begins c.requires; good = good_of _ c.requires.callable.accepted c.requires.fits }
 
-abbrev input : At-loop-t → List ℕ
-input l = l.args.input.now
-
-abbrev state : At-loop-t → Arrays
-state l = let v = l.loop-t in arrays v.times v.lengths v.bytes v.copies v.numbers
-
 abbrev after : After-take_some-t → Arrays
 after c =
     let v = c.take_some-t.new in
-    arrays v.times v.lengths v.bytes v.copies v.numbers
+    arrays_in v.state
 
 abbrev archive : After-take_some-t → List ℕ
 archive c = c.take_some-t.new.archive
@@ -55,13 +46,7 @@ archive c = c.take_some-t.new.archive
 abbrev heard : After-take_some-t → List ℕ
 heard c = c.take_some-t.new.heard
 
--- the outputs at the start, before a turn, and after it
-abbrev lent : At-loop-t → Outputs
-lent l = let a = l.args in outputs a.archive.now a.n a.heard.now a.m
-
-abbrev here : At-loop-t → Outputs
-here l = let v = l.loop-t in outputs v.archive v.rows v.heard v.closings
-
+-- the outputs after a turn
 abbrev then : After-take_some-t → Outputs
 then c =
     let v = c.loop-t in
@@ -71,17 +56,11 @@ then c =
 -- ---- a turn
 
 took : (c : After-take_some-t) → (
-    let c_back3 = c.before.before.before in
-    let c_back6 = c_back3.before.before.before in
-    (let a = c.args in
-    Turned a.write (state c_back6.before.before.before) a.setting
-    (drop c.loop-t.at (input c_back6.before.before.before)) (here c_back6.before.before.before)
-    (after c) (archive c) (heard c) c.take_some-t.result))
-took c =
-    let c_back3 = c.before.before.before in
-    let c_back6 = c_back3.before.before.before in
-    rw (take_rest (input c_back6.before.before.before)
-    (length (input c_back6.before.before.before)) c.loop-t.at refl) at c.take_some-t.ensures
+    let a = c.args in
+    let v = c.loop-t in
+    Turned a.write (arrays_in v.state) a.setting (drop v.at a.input.now) (outputs v.archive v.rows v.heard v.closings)
+    (after c) (archive c) (heard c) c.take_some-t.result)
+took c = rw (take_rest c.args.input.now (length c.args.input.now) c.loop-t.at refl) at c.take_some-t.ensures
 
 same : (c : After-take_some-t) → length (archive c) ≡ length c.loop-t.archive
 same c = c.take_some-t.auto.archive
@@ -91,14 +70,10 @@ same_heard c = c.take_some-t.auto.heard
 
 goes : (c : Else-not-t) → (
     let c_back3 = c.before.before.before in
-    let c_back6 = c_back3.before.before.before in
-    let c_back9 = c_back6.before.before.before in
-    let c_back12 = c_back9.before.before.before in
-    (let a = c.args in
-    Going a.write (phase_at a.setting (arrays a.times.now a.lengths.now a.bytes.now
-    a.copies.now a.numbers.now)) (input c_back12.before.before.before) (lent c_back12.before.before.before)
+    let a = c.args in
+    Going a.write (phase_at a.setting (arrays_in a.state.now)) a.input.now (outputs a.archive.now a.n a.heard.now a.m)
     (phase_at a.setting (after c_back3.before.before.before)) (c.loop-t.at + c.take_some-t.result.used)
-    (then c_back3.before.before.before)))
+    (then c_back3.before.before.before))
 goes c =
     let c_back3 = c.before.before.before in
     let p = c.requires in
@@ -159,17 +134,13 @@ take_last-requires c =
     let c_back9 = c_back6.before.before.before in
     let c_back12 = c_back9.before.before.before in
     let c_back15 = c_back12.before.before.before in
-    let c_back18 = c_back15.before.before.before in
-    let c_back21 = c_back18.before.before.before in
-    let c_back24 = c_back21.before.before.before in
-    let c_back27 = c_back24.before.before.before in
     let p = c.requires in
     let none : c.loop-t.at + c.take_some-t.result.used ≡ c.loop-t.at = omega (arith, c.if-t-eq0.true) in
-    rw (take_rest (input c_back27.before.before) (length (input c_back27.before.before))
+    rw (take_rest c.args.input.now (length c.args.input.now)
     (c.loop-t.at + c.take_some-t.result.used) refl) (
-      ready (goes c_back12.before.before) p.holds p.fit (good c_back18.before.before) p.callable.level,
+      ready (goes c_back9.before) p.holds p.fit (good c_back15.before) p.callable.level,
       rw none
-          ((took c_back18.before.before).rest c.if-t-eq0.true),
+          ((took c_back15.before).rest c.if-t-eq0.true),
     )
 
 pub returns : goal.returns
@@ -179,18 +150,12 @@ returns c =
     let c_back9 = c_back6.before.before.before in
     let c_back12 = c_back9.before.before.before in
     let c_back15 = c_back12.before.before.before in
-    let c_back18 = c_back15.before.before.before in
-    let c_back21 = c_back18.before.before.before in
-    let c_back24 = c_back21.before.before.before in
-    let c_back27 = c_back24.before.before.before in
-    let c_back30 = c_back27.before.before.before in
-    let c_back33 = c_back30.before.before.before in
-    let rest = take_rest (input c_back33.before) (length (input c_back33.before))
+    let rest = take_rest c.args.input.now (length c.args.input.now)
     (c.loop-t.at + c.take_some-t.result.used) refl in
     let w = rw rest at c.take_last.ensures in
     record {
-      passed = ends (goes c_back18.before) c.take_last.result w.passed;
-      left = λ f. (goes c_back18.before).left ∙ w.left f;
+      passed = ends (goes c_back15) c.take_last.result w.passed;
+      left = λ f. (goes c_back15).left ∙ w.left f;
       accepted = w.accepted;
     }
 
@@ -222,8 +187,7 @@ overflow_add-at c =
     let c_back9 = c_back6.before.before.before in
     let c_back12 = c_back9.before.before.before in
     let c_back15 = c_back12.before.before.before in
-    let c_back18 = c_back15.before.before.before in
-    omega (arith, (goes c.before.before).inside, input-small c_back18.before.before.before)
+    omega (arith, (goes c.before.before).inside, input-small c_back15.before.before)
 
 pub overflow_add-rows : goal.overflow_add-rows
 overflow_add-rows c =
@@ -233,12 +197,11 @@ overflow_add-rows c =
     let c_back12 = c_back9.before.before.before in
     let c_back15 = c_back12.before.before.before in
     let c_back18 = c_back15.before.before.before in
-    let c_back21 = c_back18.before.before.before in
     omega (
       arith,
       (goes c.before.before.before).room.rows,
       (goes c.before.before.before).long,
-      archive-small c_back21.before,
+      archive-small c_back18,
     )
 
 pub overflow_add-closings : goal.overflow_add-closings
@@ -249,23 +212,16 @@ overflow_add-closings c =
     let c_back12 = c_back9.before.before.before in
     let c_back15 = c_back12.before.before.before in
     let c_back18 = c_back15.before.before.before in
-    let c_back21 = c_back18.before.before.before in
-    omega (arith, (goes c_back3.before).room.closings, (goes c_back3.before).same, heard-small c_back21.before.before)
+    omega (arith, (goes c_back3.before).room.closings, (goes c_back3.before).same, heard-small c_back18.before)
 
 pub slice_bounds-take_last-count : goal.slice_bounds-take_last-count
-slice_bounds-take_last-count c =
-    let c_back3 = c.before.before.before in
-    omega (arith, within c_back3.before.before.before)
+slice_bounds-take_last-count c = omega (arith, within c.before.before)
 
 pub slice_bounds-take_last-start : goal.slice_bounds-take_last-start
-slice_bounds-take_last-start c =
-    let c_back3 = c.before.before.before in
-    omega (arith, within c_back3.before.before.before)
+slice_bounds-take_last-start c = omega (arith, within c.before.before)
 
 pub slice_bounds-take_last-end : goal.slice_bounds-take_last-end
-slice_bounds-take_last-end c =
-    let c_back3 = c.before.before.before in
-    omega (arith, within c_back3.before.before.before)
+slice_bounds-take_last-end c = omega (arith, within c.before.before)
 
 pub shape_of-archive : goal.shape_of-archive
 shape_of-archive c =
@@ -274,8 +230,7 @@ shape_of-archive c =
     let c_back9 = c_back6.before.before.before in
     let c_back12 = c_back9.before.before.before in
     let c_back15 = c_back12.before.before.before in
-    let c_back18 = c_back15.before.before.before in
-    c.take_last.auto.archive ∙ (goes c_back18.before).long
+    c.take_last.auto.archive ∙ (goes c_back15).long
 
 pub shape_of-heard : goal.shape_of-heard
 shape_of-heard c =
@@ -284,5 +239,4 @@ shape_of-heard c =
     let c_back9 = c_back6.before.before.before in
     let c_back12 = c_back9.before.before.before in
     let c_back15 = c_back12.before.before.before in
-    let c_back18 = c_back15.before.before.before in
-    c.take_last.auto.heard ∙ (goes c_back18.before).same
+    c.take_last.auto.heard ∙ (goes c_back15).same

@@ -5,7 +5,7 @@ use mathlib.Core.List.{List}
 use Prim.Native.Nat.{ℕ, ◌-◌}
 use lib.ListN.{length}
 use Rattle.collector_model.proofs.Invariant.{Good}
-use Rattle.c_collector.specs.State.{Arrays, arrays, state_at}
+use Rattle.c_collector.specs.State.{Arrays, arrays_in, state_at}
 use Rattle.history_log.specs.Private.{Outputs, outputs, phase_at}
 use Rattle.history_log.proofs.Turning.{Going}
 use Rattle.history_log.proofs.take_lines.Given as goal
@@ -17,9 +17,8 @@ pub record Taking (write : Bool) (s₀ : Arrays) (setting : ℕ) (input : List �
 
 abbrev pub invariant-loop-t : goal.invariant-loop-t
 invariant-loop-t l =
-    Taking l.write (arrays l.initial.times l.initial.lengths l.initial.bytes l.initial.copies l.initial.numbers)
-    l.setting l.input (outputs l.initial.archive l.n l.initial.heard l.m)
-    (arrays l.times l.lengths l.bytes l.copies l.numbers) l.at (outputs l.archive l.rows l.heard l.closings)
+    Taking l.write (arrays_in l.initial.state) l.setting l.input (outputs l.initial.archive l.n l.initial.heard l.m)
+    (arrays_in l.state) l.at (outputs l.archive l.rows l.heard l.closings)
 
 abbrev pub decreases-loop-t : goal.decreases-loop-t
 decreases-loop-t l = length l.input - l.at

@@ -5,7 +5,7 @@ use Prim.Native.Nat.{ℕ, ◌≤◌}
 use native.Mathlib.Omega.{arith}
 use lib.ListN.{length, get_or}
 use Rattle.base_buffers.proofs.Stores.{take_rest}
-use Rattle.c_collector.specs.State.{Arrays, arrays}
+use Rattle.c_collector.specs.State.{Arrays, arrays_in}
 use Rattle.c_lines.specs.Calls.{first_used}
 use Rattle.history_log.proofs.Said.{first_within}
 use Rattle.history_log.proofs.Keeping.{none_logged, first_ready, first_logged}
@@ -24,7 +24,7 @@ log c = c.args.log.now
 abbrev lent : After-first_line-setting → Arrays
 lent c =
     let a = c.args in
-    arrays a.times.now a.lengths.now a.bytes.now a.copies.now a.numbers.now
+    arrays_in a.state.now
 
 -- ---- the rest of the log
 
@@ -44,35 +44,27 @@ pub take_lines-requires : goal.take_lines-requires
 take_lines-requires c =
     let c_back3 = c.before.before.before in
     let c_back6 = c_back3.before.before.before in
-    let c_back9 = c_back6.before.before.before in
-    let rest = take_rest (log c_back9.before) (length (log c_back9.before))
+    let rest = take_rest (log c_back6) (length (log c_back6))
     (get_or c.first_line-setting.new.done 0 0) refl in
-    rw (rest, used c_back9.before)
-    (first_ready c.args.write (log c_back9.before) c.args.archive.now c.args.n c.args.heard.now
+    rw (rest, used c_back6)
+    (first_ready c.args.write (log c_back6) c.args.archive.now c.args.n c.args.heard.now
     c.requires.1 c.first_line-setting.result c.first_line-setting.ensures.0
-    (lent c_back9.before) c.requires.0 c.if-setting-gt-MAX_SETTING.false)
+    (lent c_back6) c.requires.0 c.if-setting-gt-MAX_SETTING.false)
 
 pub returns : goal.returns
 returns c =
     let c_back3 = c.before.before.before in
     let c_back6 = c_back3.before.before.before in
     let c_back9 = c_back6.before.before.before in
-    let c_back12 = c_back9.before.before.before in
-    let rest = take_rest (log c_back12.before.before.before) (length (log c_back12.before.before.before))
+    let rest = take_rest (log c_back9.before.before) (length (log c_back9.before.before))
     (get_or c.first_line-setting.new.done 0 0) refl in
-    first_logged c.args.write (log c_back12.before.before.before) c.args.archive.now c.args.n c.args.heard.now
+    first_logged c.args.write (log c_back9.before.before) c.args.archive.now c.args.n c.args.heard.now
     c.requires.1 c.first_line-setting.result c.first_line-setting.ensures.0
-    (lent c_back12.before.before.before) c.requires.0 c.if-setting-gt-MAX_SETTING.false
-    c.take_lines.result (rw (rest, used c_back12.before.before.before) at c.take_lines.ensures)
+    (lent c_back9.before.before) c.requires.0 c.if-setting-gt-MAX_SETTING.false
+    c.take_lines.result (rw (rest, used c_back9.before.before) at c.take_lines.ensures)
 
 pub slice_bounds-take_lines-count : goal.slice_bounds-take_lines-count
-slice_bounds-take_lines-count c =
-    let c_back3 = c.before.before.before in
-    let c_back6 = c_back3.before.before.before in
-    within c_back6.before
+slice_bounds-take_lines-count c = within c.before.before.before
 
 pub slice_bounds-take_lines-start : goal.slice_bounds-take_lines-start
-slice_bounds-take_lines-start c =
-    let c_back3 = c.before.before.before in
-    let c_back6 = c_back3.before.before.before in
-    within c_back6.before
+slice_bounds-take_lines-start c = within c.before.before.before

@@ -21,10 +21,10 @@ use Rattle.history_log.proofs.take_some.Goals as goal
 
 -- states on the way
 abbrev Start : Type 0
-Start = lts.Start tie.the-claims reads.Pre reads.Post
+Start = lts.Start tie.the-claims reads.Pre reads.Post tie.handed_clauses
 
 abbrev After-lines_as : Type 0
-After-lines_as = lts.After-lines_as tie.the-claims reads.Pre reads.Post
+After-lines_as = lts.After-lines_as tie.the-claims reads.Pre reads.Post tie.handed_clauses
 
 small : (s : Start) → length s.args.archive.now < 2 ^ 64
 small s = search rules
@@ -50,7 +50,7 @@ abbrev closings : After-lines_as → ℕ
 closings c = get_or (done c) 4 0
 
 few : (c : After-lines_as) → count c ≤ 15
-few c = count_fits c.lines_as.ensures c.requires refl
+few c = count_fits c.lines_as.ensures.lines_as c.requires refl
 
 moments-long : (c : After-lines_as) → length (moments c) ≡ 15
 moments-long c = c.lines_as.auto.moments
@@ -63,7 +63,7 @@ closed-long c = c.lines_as.auto.closed ∙ c.buffer-closed.ensures
 
 brief : (c : After-lines_as) → cell_length * closings c ≤ 4096
 brief c =
-    let h = closings-fit c.lines_as.ensures c.requires refl in
+    let h = closings-fit c.lines_as.ensures.lines_as c.requires refl in
     omega (arith, h, c.buffer-closed.ensures)
 
 pub put-requires : goal.put-requires
@@ -103,7 +103,7 @@ put_closings-requires c e =
 pub returns : goal.returns
 returns c =
     let a = c.args in
-    turned c.lines_as.ensures c.requires refl c.buffer-closed.ensures a.write refl (omega arith)
+    turned c.lines_as.ensures.lines_as c.requires refl c.buffer-closed.ensures a.write refl (omega arith)
     c.buffer-text.ensures c.put.ensures c.put_closings.ensures
 
 pub overflow_mul-fits : goal.overflow_mul-fits
@@ -113,8 +113,7 @@ overflow_mul-fits c =
     let c_back9 = c_back6.before.before.before in
     let c_back12 = c_back9.before.before.before in
     let c_back15 = c_back12.before.before.before in
-    let c_back18 = c_back15.before.before.before in
-    omega (arith, small c_back18.before.before.before)
+    omega (arith, small c_back15.before.before)
 
 pub overflow_sub-fits : goal.overflow_sub-fits
 overflow_sub-fits c = omega (arith, c.requires.room.rows)

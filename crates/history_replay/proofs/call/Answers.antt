@@ -2,6 +2,7 @@
 use Prim.Native.Nat.{ℕ}
 use mathlib.Core.List.{List, []}
 use lib.ListN.{length-replicate}
+use Rattle.c_collector.proofs.State.{same_loans}
 use Rattle.history_replay.proofs.Records.{call_receive, call_checkpoint, call_cut, call_restore, call_burst, call_ask, Other, call_look}
 use Rattle.history_replay.proofs.call.Lts as lts
 use Rattle.history_replay.proofs.call.Reads as reads
@@ -10,7 +11,7 @@ use Rattle.history_replay.proofs.call.Goals as goal
 
 -- states on the way
 abbrev Else-operation-eq-ASKING : Type 0
-Else-operation-eq-ASKING = lts.Else6 tie.the-claims reads.Pre reads.Post
+Else-operation-eq-ASKING = lts.Else6 tie.the-claims reads.Pre reads.Post tie.handed_clauses
 
 -- the output is as long as what is written of the call
 pub received-requires : goal.received-requires
@@ -51,45 +52,49 @@ other c lent =
 
 pub looked-requires : goal.looked-requires
 looked-requires c =
-    let c_back3 = c.before.before.before in
-    let c_back6 = c_back3.before.before.before in
-    rw (call_look [] c.args.r.now (other c_back6.before [])) at c.requires.1
+    rw (call_look [] c.args.r.now (other c.before.before [])) at c.requires.1
 
-pub returns-then-operation-eq-RECEIVING : goal.returns-then-operation-eq-RECEIVING
-returns-then-operation-eq-RECEIVING c =
+pub returns-then-operation-eq-RECEIVING-clause-called : goal.returns-then-operation-eq-RECEIVING-clause-called
+returns-then-operation-eq-RECEIVING-clause-called c =
     let a = c.args in
-    rw (call_receive a.lent.now a.r.now c.if-operation-eq-RECEIVING.true) c.received.ensures
+    rw (call_receive a.lent.now a.r.now c.if-operation-eq-RECEIVING.true) c.received.ensures.called
 
 pub returns-then-operation-eq-SAVING : goal.returns-then-operation-eq-SAVING
 returns-then-operation-eq-SAVING c =
     let a = c.args in
-    rw (call_checkpoint a.lent.now a.r.now c.if-operation-eq-SAVING.true) c.saved.ensures
+    record {
+      called = rw (call_checkpoint a.lent.now a.r.now c.if-operation-eq-SAVING.true) c.saved.ensures;
+      same_loans = same_loans _;
+    }
 
-pub returns-then-operation-eq-CUTTING : goal.returns-then-operation-eq-CUTTING
-returns-then-operation-eq-CUTTING c =
+pub returns-then-operation-eq-CUTTING-clause-called : goal.returns-then-operation-eq-CUTTING-clause-called
+returns-then-operation-eq-CUTTING-clause-called c =
     let a = c.args in
-    rw (call_cut a.lent.now a.r.now c.if-operation-eq-CUTTING.true) c.cut.ensures
+    rw (call_cut a.lent.now a.r.now c.if-operation-eq-CUTTING.true) c.cut.ensures.called
 
-pub returns-then-operation-eq-RESTORING : goal.returns-then-operation-eq-RESTORING
-returns-then-operation-eq-RESTORING c =
+pub returns-then-operation-eq-RESTORING-clause-called : goal.returns-then-operation-eq-RESTORING-clause-called
+returns-then-operation-eq-RESTORING-clause-called c =
     let a = c.args in
-    rw (call_restore a.lent.now a.r.now c.if-operation-eq-RESTORING.true) c.restored.ensures
+    rw (call_restore a.lent.now a.r.now c.if-operation-eq-RESTORING.true) c.restored.ensures.called
 
-pub returns-then-operation-eq-DELIVERING : goal.returns-then-operation-eq-DELIVERING
-returns-then-operation-eq-DELIVERING c =
+pub returns-then-operation-eq-DELIVERING-clause-called : goal.returns-then-operation-eq-DELIVERING-clause-called
+returns-then-operation-eq-DELIVERING-clause-called c =
     let a = c.args in
-    rw (call_burst a.lent.now a.r.now c.if-operation-eq-DELIVERING.true) c.delivered.ensures
+    rw (call_burst a.lent.now a.r.now c.if-operation-eq-DELIVERING.true) c.delivered.ensures.called
 
 pub returns-then-operation-eq-ASKING : goal.returns-then-operation-eq-ASKING
 returns-then-operation-eq-ASKING c =
     let a = c.args in
-    rw (call_ask a.lent.now a.r.now c.if-operation-eq-ASKING.true) c.asked.ensures
+    record {
+      called = rw (call_ask a.lent.now a.r.now c.if-operation-eq-ASKING.true) c.asked.ensures;
+      same_loans = same_loans _;
+    }
 
 pub returns : goal.returns
 returns c =
     let c_back3 = c.before.before.before in
-    let c_back6 = c_back3.before.before.before in
-    let c_back9 = c_back6.before.before.before in
     let a = c.args in
-    rw (call_look a.lent.now a.r.now (other c_back9.before
-    a.lent.now)) c.looked.ensures
+    record {
+      called = rw (call_look a.lent.now a.r.now (other c_back3.before.before a.lent.now)) c.looked.ensures;
+      same_loans = same_loans _;
+    }

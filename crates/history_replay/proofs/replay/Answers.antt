@@ -2,7 +2,7 @@
 use Rattle.history_replay.proofs.Running.{replays}
 use Rattle.history_replay.proofs.replay.Goals as goal
 
-pub returns : goal.returns
-returns c =
-    let f = c.fresh.ensures in
-    replays _ _ _ f.zero f.state c.resume.ensures
+pub returns-clause-replays : goal.returns-clause-replays
+returns-clause-replays c =
+    let f = c.clear.ensures.fresh in
+    replays _ _ _ f.zero f.state c.resume.ensures.resumes

@@ -5,6 +5,7 @@ use Prim.Native.Nat.{◌<◌}
 use native.Mathlib.Omega.{arith}
 use lib.ListN.{length}
 use borrow.Author.Tests.{leb-true, leb-false}
+use Rattle.c_collector.proofs.State.{same_loans}
 use Rattle.history_replay_model.specs.Replay.{size_of_all}
 use Rattle.history_replay.specs.Calls.{calls_in}
 use Rattle.history_replay.proofs.Records.{sizes_lent}
@@ -22,11 +23,11 @@ returns-then-not-fits c =
           c.fits.ensures ∙ c.if-not-fits.true),
     )
     in
-    refused short refl
+    record { resumes = refused short refl; same_loans = same_loans _ }
 
 pub all-requires : goal.all-requires
 all-requires c =
     leb-true _ _ (sym c.fits.ensures ∙ c.if-not-fits.false)
 
-pub returns : goal.returns
-returns c = c.all.ensures
+pub returns-clause-resumes : goal.returns-clause-resumes
+returns-clause-resumes c = c.all.ensures.resumes

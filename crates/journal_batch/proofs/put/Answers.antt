@@ -1,15 +1,17 @@
--- `journal_batch::put` meets its contract: the answer's number, and the block that the call leaves.
-use Prim.Native.Nat.{ℕ}
-use mathlib.Core.Path.{ap, ◌∙◌}
-use Rattle.base_refusal.specs.Number.{outcome_number}
+-- `journal_batch::put` meets its contract: the refusal, and the block that the call leaves.
+use Rattle.base_refusal.specs.Number.{number_of}
 use Rattle.journal_batch.proofs.Cases.{put_as}
 use Rattle.journal_batch.proofs.put.Goals as goal
 
-pub returns : goal.returns
-returns c =
+pub returns-in-Ok : goal.returns-in-Ok
+returns-in-Ok c =
     let a = c.args in
-    let r = c.put_rows-filled.result in
-    ap (λ (n : ℕ). record { number = n; block = c.put_rows-filled.new.block }) c.outcome_number.ensures
-    ∙ put_as a.count a.times.now a.records.now a.block.now
-    (record { number = outcome_number r.answer; position = r.position; buffer = c.put_rows-filled.new.block })
-    c.put_rows-filled.ensures
+    put_as a.count a.times.now a.records.now a.block.now
+    (record { number = 0; position = 0; buffer = c.put_rows.new.block }) c.in-Ok.ensures
+
+pub returns-in-Err : goal.returns-in-Err
+returns-in-Err c =
+    let a = c.args in
+    let e = c.in-Err.e in
+    put_as a.count a.times.now a.records.now a.block.now
+    (record { number = number_of e.why; position = e.position; buffer = c.put_rows.new.block }) c.in-Err.ensures

@@ -1,5 +1,11 @@
 -- `journal_recovery::is_lost` meets its contract: each return is one case of `lost_at`.
-use Prim.Native.Nat.{ℕ, ◌-◌, ◌*◌}
+use Rattle.std.specs.Prelude.{Result, Err}
+use Rattle.archive_file.specs.declared.ArchiveError.{ArchiveError}
+use Rattle.archive_file.specs.declared.ArchiveError.TheVariants.{Damaged, Refused}
+use Rattle.journal_model.specs.Disk.{whole_blocks}
+use Rattle.journal_recovery.specs.Private.{lost_at}
+use mathlib.Core.Bool.{true}
+use Prim.Native.Nat.{ℕ, ◌-◌, ◌*◌, ◌<◌}
 use native.Mathlib.Omega.{arith}
 use mathlib.Core.Path.{◌≡◌, sym, ap, ◌∙◌}
 use mathlib.Core.List.{List}
@@ -8,40 +14,33 @@ use Rattle.block_layout.specs.Block.{block_length}
 use Rattle.archive_model.specs.Append.{open_of}
 use Rattle.archive_file.specs.Archive.{open_result}
 use Rattle.journal_recovery.proofs.Lost.{lost_short, lost_rows, lost_damaged, lost_refused}
-use Rattle.journal_recovery.proofs.is_lost.Lts as lts
-use Rattle.journal_recovery.proofs.is_lost.Reads as reads
-use Rattle.journal_recovery.proofs.is_lost.Tie as tie
 use Rattle.journal_recovery.proofs.is_lost.Goals as goal
 
--- states on the way
-abbrev After-open-opened : Type 0
-After-open-opened = lts.After-open tie.the-claims reads.Pre reads.Post
-
-abbrev at : After-open-opened → ℕ
-at c = c.args.at
-
-abbrev file : After-open-opened → List ℕ
-file c = c.args.file.now
-
-opened : (c : After-open-opened) → open_result c.open-opened.result ≡ open_of (part 0 (block_length * at c) (file c))
-opened c =
-    let e : block_length * at c - 0 ≡ block_length * at c = omega arith in
-    c.open-opened.ensures ∙ ap (λ (n : ℕ). open_of (part 0 n (file c))) e
+-- what `open` said of the blocks before it
+opened : (at : ℕ) (file : List ℕ) (r : Result ℕ ArchiveError)
+    → open_result r ≡ open_of (part 0 (block_length * at - 0) file)
+    → open_result r ≡ open_of (part 0 (block_length * at) file)
+opened at file r h =
+    let e : block_length * at - 0 ≡ block_length * at = omega arith in
+    h ∙ ap (λ (n : ℕ). open_of (part 0 n file)) e
 
 pub returns-then-file-at : goal.returns-then-file-at
 returns-then-file-at c = lost_short c.args.at c.args.file.now c.if-file-at.true
 
-pub returns-in-Rows : goal.returns-in-Rows
-returns-in-Rows c =
-    lost_rows (at c.before.before) (file c.before.before) c.if-file-at.false c.in-Rows.n
-    (sym (ap open_result c.in-Rows.is) ∙ opened c.before.before)
+-- an archive that does not open
+lost : (at : ℕ) (file : List ℕ) (e : ArchiveError) → at < whole_blocks file
+    → open_result (Err e) ≡ open_of (part 0 (block_length * at) file) → true ≡ lost_at at file
+lost at file (Damaged k) h e = lost_damaged at file h k e
+lost at file (Refused why) h e = lost_refused at file h why e
 
-pub returns-in-Damaged : goal.returns-in-Damaged
-returns-in-Damaged c =
-    lost_damaged (at c.before.before) (file c.before.before) c.if-file-at.false c.in-Damaged.field-0
-    (sym (ap open_result c.in-Damaged.is) ∙ opened c.before.before)
+pub returns-in-Ok : goal.returns-in-Ok
+returns-in-Ok c =
+    let a = c.args in
+    lost_rows a.at a.file.now c.if-file-at.false c.in-Ok.n
+    (sym (ap open_result c.in-Ok.is) ∙ opened a.at a.file.now c.open.result c.open.ensures)
 
-pub returns-in-Refused : goal.returns-in-Refused
-returns-in-Refused c =
-    lost_refused (at c.before.before) (file c.before.before) c.if-file-at.false c.in-Refused.field-0
-    (sym (ap open_result c.in-Refused.is) ∙ opened c.before.before)
+pub returns-in-Err : goal.returns-in-Err
+returns-in-Err c =
+    let a = c.args in
+    lost a.at a.file.now c.in-Err.field-0 c.if-file-at.false
+    (sym (ap open_result c.in-Err.is) ∙ opened a.at a.file.now c.open.result c.open.ensures)

@@ -1,81 +1,90 @@
 -- `journal_recovery::sweep` meets its contract: the scan counts the blocks that stay, and those behind them are cleared.
 use Prim.Native.Nat.{ℕ, ◌+◌, ◌-◌, ◌*◌, ◌≤◌, ◌<◌}
 use native.Mathlib.Omega.{arith}
-use mathlib.Core.Path.{◌≡◌, ap, ◌∙◌}
+use mathlib.Core.Path.{◌≡◌, refl, ap, ◌∙◌}
 use mathlib.Core.List.{List}
 use lib.ListN.{length, get_or}
+use Rattle.std.specs.Prelude.{Result, Ok, Err, ⊤, IsOk}
+use Rattle.base_refusal.specs.Number.{outcome_number}
+use Rattle.base_refusal.specs.declared.Refusal.{Refusal}
+use Rattle.base_refusal.proofs.Numbers.{refused-number}
 use Rattle.base_buffers.proofs.Segments as segments
 use Rattle.block_layout.specs.Block.{cells_per_block, block_length}
-use Rattle.archive_model.specs.Buffer.{blocks_for, max_blocks}
+use Rattle.archive_model.specs.Buffer.{blocks_for, max_blocks, max_rows}
 use Rattle.journal_model.specs.Disk.{whole_blocks}
+use Rattle.journal_calls.specs.Run.{RunCall}
 use Rattle.journal_recovery.specs.Private.{run_rows, swept_at}
-use Rattle.journal_recovery.proofs.Swept.{run_inside, swept, Scanned, scanned}
-use Rattle.journal_recovery.proofs.sweep.Lts as lts
-use Rattle.journal_recovery.proofs.sweep.Reads as reads
-use Rattle.journal_recovery.proofs.sweep.Tie as tie
+use Rattle.journal_recovery.proofs.Swept.{swept, scanned, scan_done, scan_end}
 use Rattle.journal_recovery.proofs.sweep.Goals as goal
 
--- states on the way
-abbrev After-feed : Type 0
-After-feed = lts.After-feed tie.the-claims reads.Pre reads.Post
+-- the block with the last counted row is in the file
+there : (rows m at : ℕ) → at ≡ blocks_for rows - 1 → rows ≤ max_rows → blocks_for rows ≤ m
+    → (at ≤ m) × (at < max_blocks)
+there rows m at e few h = (omega (arith, e, h), omega (arith, e, few))
 
-abbrev at : After-feed → ℕ
-at c = c.last_used-at.result
+-- the answer of `feed`
+abbrev fed : Result ⊤ Refusal → List ℕ → RunCall
+fed r numbers = record { number = outcome_number r; numbers = numbers }
 
-abbrev file : After-feed → List ℕ
-file c = c.args.file.now
+done_ok : (r : Result ⊤ Refusal) → outcome_number r ≡ 0 → IsOk r
+done_ok (Ok tt) e = refl
+done_ok (Err why) e = absurd (refused-number why e)
 
-at_is : (c : After-feed) → at c ≡ blocks_for c.args.rows - 1
-at_is c = c.last_used-at.ensures
+pub unwrap-requires : goal.unwrap-requires
+unwrap-requires c =
+    let file = c.args.file.now in
+    let at = c.last_used-at.result in
+    let h = there c.args.rows (whole_blocks file) at c.last_used-at.ensures c.requires.0 c.requires.2 in
+    done_ok c.feed.result
+    (scan_done at file h.0 h.1 c.requires.1 (fed c.feed.result c.feed.new.numbers) c.feed.ensures)
 
-inside : (c : After-feed) → at c ≤ whole_blocks (file c)
-inside c = omega (arith, at_is c, c.requires.2)
+pub overflow_add-behind : goal.overflow_add-behind
+overflow_add-behind c =
+    let file = c.args.file.now in
+    let at = c.last_used-at.result in
+    let h = there c.args.rows (whole_blocks file) at c.last_used-at.ensures c.requires.0 c.requires.2 in
+    omega (arith, scan_end at file h.0 h.1 c.requires.1 (fed c.feed.result c.feed.new.numbers) c.feed.ensures)
 
-low : (c : After-feed) → at c < max_blocks
-low c = omega (arith, at_is c, c.requires.0)
+pub overflow_mul-behind : goal.overflow_mul-behind
+overflow_mul-behind c =
+    let file = c.args.file.now in
+    let at = c.last_used-at.result in
+    let h = there c.args.rows (whole_blocks file) at c.last_used-at.ensures c.requires.0 c.requires.2 in
+    omega (arith, scan_end at file h.0 h.1 c.requires.1 (fed c.feed.result c.feed.new.numbers) c.feed.ensures)
 
-counts : (c : After-feed) → Scanned (at c) (file c) (inside c) (low c) c.requires.1 c.feed.new.numbers
-counts c =
-    scanned (at c) (file c) (inside c) (low c) c.requires.1
-    (record { number = c.feed.result; numbers = c.feed.new.numbers }) c.feed.ensures
+pub slice_bounds-clear-count : goal.slice_bounds-clear-count
+slice_bounds-clear-count c =
+    let file = c.args.file.now in
+    let at = c.last_used-at.result in
+    let h = there c.args.rows (whole_blocks file) at c.last_used-at.ensures c.requires.0 c.requires.2 in
+    omega (arith, scan_end at file h.0 h.1 c.requires.1 (fed c.feed.result c.feed.new.numbers) c.feed.ensures)
 
-abbrev end : After-feed → ℕ
-end c = at c + get_or c.feed.new.numbers 2 0
-
-end_inside : (c : After-feed) → end c ≤ whole_blocks (file c)
-end_inside c = omega (arith, (counts c).blocks, run_inside (at c) (file c) (inside c))
+pub slice_bounds-clear-start : goal.slice_bounds-clear-start
+slice_bounds-clear-start c =
+    let file = c.args.file.now in
+    let at = c.last_used-at.result in
+    let h = there c.args.rows (whole_blocks file) at c.last_used-at.ensures c.requires.0 c.requires.2 in
+    omega (arith, scan_end at file h.0 h.1 c.requires.1 (fed c.feed.result c.feed.new.numbers) c.feed.ensures)
 
 pub returns : goal.returns
 returns c =
-    let c_back3 = c.before.before.before in
     let n = c.args.rows in
-    let m = block_length * whole_blocks (file c_back3.before.before.before) in
+    let file = c.args.file.now in
+    let at = c.last_used-at.result in
+    let numbers = c.feed.new.numbers in
+    let h = there n (whole_blocks file) at c.last_used-at.ensures c.requires.0 c.requires.2 in
+    let counts = scanned at file h.0 h.1 c.requires.1 (fed c.feed.result numbers) c.feed.ensures in
+    let end = at + get_or numbers 2 0 in
+    let inside = scan_end at file h.0 h.1 c.requires.1 (fed c.feed.result numbers) c.feed.ensures in
+    let m = block_length * whole_blocks file in
     let b = segments.wipe
-    (segments.skip (segments.begin (file c_back3.before.before.before)) (block_length * end
-    c_back3.before.before.before) (omega arith) (omega (arith, end_inside c_back3.before.before.before)))
-    c.clear.new.out m c.clear.ensures c.clear.auto.out (omega (arith, end_inside c_back3.before.before.before))
-    (omega arith) in
+    (segments.skip (segments.begin file) (block_length * end) (omega arith) (omega (arith, inside)))
+    c.clear.new.out m c.clear.ensures c.clear.auto.out (omega (arith, inside)) (omega arith) in
     record {
       rows =
-          c.beyond.ensures ∙ ap (λ (k : ℕ). k - (n - cells_per_block * at c_back3.before.before.before))
-          (counts c_back3.before.before.before).count
-          ∙ ap (λ (k : ℕ). length (run_rows k (file c_back3.before.before.before)) - (n - cells_per_block * k))
-          (at_is c_back3.before.before.before);
+          c.saturating_sub.ensures ∙ ap (λ (k : ℕ). k - (n - cells_per_block * at)) counts.count
+          ∙ ap (λ (k : ℕ). length (run_rows k file) - (n - cells_per_block * k)) c.last_used-at.ensures;
       bytes =
-          swept (at c_back3.before.before.before) (file c_back3.before.before.before)
-          (inside c_back3.before.before.before) (end c_back3.before.before.before)
-          (ap (λ (k : ℕ). at c_back3.before.before.before + k) (counts c_back3.before.before.before).blocks) _ b
-          ∙ ap (λ (k : ℕ). swept_at k (file c_back3.before.before.before)) (at_is c_back3.before.before.before);
+          swept at file h.0 end (ap (λ (k : ℕ). at + k) counts.blocks) _ b
+          ∙ ap (λ (k : ℕ). swept_at k file) c.last_used-at.ensures;
     }
-
-pub overflow_add-behind : goal.overflow_add-behind
-overflow_add-behind c = omega (arith, end_inside c.before)
-
-pub overflow_mul-behind : goal.overflow_mul-behind
-overflow_mul-behind c = omega (arith, end_inside c.before)
-
-pub slice_bounds-clear-count : goal.slice_bounds-clear-count
-slice_bounds-clear-count c = omega (arith, end_inside c.before)
-
-pub slice_bounds-clear-start : goal.slice_bounds-clear-start
-slice_bounds-clear-start c = omega (arith, end_inside c.before)

@@ -1,16 +1,16 @@
 -- `plan_rules::plan_by` meets its contract: its three tests are those of `is_allowed`, and `choose` draws under the rule that was looked up.
-use mathlib.Core.Path.{◌≡◌, sym, ◌∙◌, ap}
-use mathlib.Core.Bool.{true, false, and-false}
+use mathlib.Core.Path.{sym, ◌∙◌, ap}
+use mathlib.Core.Bool.{and-false}
 use Rattle.plan_slots.specs.declared.Rule.{Rule}
-use Rattle.plan_slots.specs.Plan.{is_duration, drawn, plans}
+use Rattle.plan_slots.specs.Plan.{drawn, plans}
 use Rattle.plan_rules.specs.Rules.{plan_by}
 use Rattle.plan_rules.proofs.Known.{known}
 use Rattle.plan_rules.proofs.plan_by.Goals as goal
 
-pub returns-then-not-in_range : goal.returns-then-not-in_range
+pub returns-then-not-is_duration : goal.returns-then-not-is_duration
 unfolding plan_by
-returns-then-not-in_range c =
-    let no : is_duration c.args.duration ≡ false = c.if-not-in_range.true in
+returns-then-not-is_duration c =
+    let no = sym c.is_duration.ensures ∙ c.if-not-is_duration.true in
     simp no
 
 pub returns-then-not-is_known : goal.returns-then-not-is_known
@@ -36,7 +36,7 @@ pub returns : goal.returns
 unfolding plan_by
 returns c =
     let a = c.args in
-    let timed : is_duration a.duration ≡ true = c.if-not-in_range.false in
+    let timed = sym c.is_duration.ensures ∙ c.if-not-is_duration.false in
     let named = sym c.is_known.ensures ∙ c.if-not-is_known.false in
     let offered = sym c.offers.ensures ∙ c.if-not-offers.false in
     simp (timed, named, offered)

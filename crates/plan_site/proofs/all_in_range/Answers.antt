@@ -1,25 +1,13 @@
--- The goals that a search does not find.
-use mathlib.Core.Path.{refl, sym, ◌∙◌}
-use native.Mathlib.Omega.{arith}
+-- `plan_site::all_in_range` meets its contract: the closure tests the repeater in some bytes.
+use borrow.Author.Rules.{rules}
+use borrow.Author.Tests.{tests}
+use Rattle.std.proofs.lemmas.Iterator.{cases_from_all, YieldsList-from_slice}
 use Rattle.plan_site.specs.Site.{is_in_range}
-use Rattle.plan_site.proofs.Loops.{tested_next, tested-stop, tested_end}
-use Rattle.plan_site.proofs.Read.{enough, as_read}
+use Rattle.plan_site.proofs.Found.{Passes, Fails, all_found}
 use Rattle.plan_site.proofs.all_in_range.Goals as goal
 
-pub loop-i-init : goal.loop-i-init
-loop-i-init c = record { enough = enough _ _ c.requires; least = omega arith; whole = refl }
-
-pub returns-then-not-is_in_range : goal.returns-then-not-is_in_range
-returns-then-not-is_in_range c =
-    tested-stop is_in_range _ _ _ c.loop-i.invariant c.loop-i-test.true
-    (as_read _ _ c.requires _ c.loop-i-test.true _ c.read_one-b.ensures is_in_range _
-    (sym c.is_in_range.ensures ∙ c.if-not-is_in_range.true))
-
-pub loop-i-preserved : goal.loop-i-preserved
-loop-i-preserved c =
-    tested_next is_in_range _ _ _ c.loop-i.invariant c.loop-i-test.true
-    (as_read _ _ c.requires _ c.loop-i-test.true _ c.read_one-b.ensures is_in_range _
-    (sym c.is_in_range.ensures ∙ c.if-not-is_in_range.false))
-
 pub returns : goal.returns
-returns c = tested_end is_in_range _ _ _ c.loop-i.invariant c.loop-i-test.false
+returns c =
+    all_found is_in_range _ _
+    (cases_from_all _ _ _ (Passes is_in_range) (Fails is_in_range) c.all.ensures.ran
+    (YieldsList-from_slice c.args.repeaters.now cc) (λ x q k. search (rules, tests)) (λ x q k. search (rules, tests)))

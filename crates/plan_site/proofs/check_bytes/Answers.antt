@@ -1,53 +1,41 @@
 -- `plan_site::check_bytes` meets its contract: each return is one of `Answers`.
-use mathlib.Core.Path.{◌≡◌, sym, ◌∙◌}
-use Prim.Native.Nat.{ℕ, ◌/◌, ◌%◌, ◌≤◌}
-use mathlib.Core.List.{List}
-use native.Mathlib.Omega.{arith}
-use lib.ListN.{length}
-use borrow.Author.Tests.{eq-eqb, ne_eqb}
-use Rattle.plan_site.specs.Bytes.{HoldsRepeaters}
-use Rattle.plan_site.proofs.Answers.{too_many, out_of_range, unlawful, lawful_pairs}
-use Rattle.plan_site.proofs.Read.{enough}
+use mathlib.Core.Path.{sym, ◌∙◌, subst}
+use mathlib.Core.List.{map}
+use Prim.Native.Nat.{ℕ}
+use Rattle.std.specs.Prelude.{Option}
+use Rattle.plan_site.specs.Site.{IsFirst}
+use Rattle.plan_site.specs.Bytes.{assignment_of}
+use Rattle.plan_site.proofs.Answers.{is_unlawful, whole_of, too_many, out_of_range, unlawful, lawful_pairs}
 use Rattle.plan_site.proofs.check_bytes.Goals as goal
 
--- whole repeaters, and few enough
-holds : (bytes : List ℕ) → length bytes % 9 ≡ 0 → length bytes / 9 ≤ 32 → HoldsRepeaters (length bytes / 9) bytes
-holds bytes whole few = record { few = few; whole = omega arith }
-
-pub returns-then-bytes-ne0 : goal.returns-then-bytes-ne0
-returns-then-bytes-ne0 c = simp (ne_eqb _ _ c.if-bytes-ne0.true)
-
-pub returns-then-count-gt-MAX_REPEATERS : goal.returns-then-count-gt-MAX_REPEATERS
-returns-then-count-gt-MAX_REPEATERS c = simp (eq-eqb _ _ c.if-bytes-ne0.false)
-    (too_many _ _ c.if-count-gt-MAX_REPEATERS.true)
-
-pub all_in_range-requires : goal.all_in_range-requires
-all_in_range-requires c = holds _ c.if-bytes-ne0.false c.if-count-gt-MAX_REPEATERS.false
+pub returns-then-repeaters-gt-MAX_REPEATERS : goal.returns-then-repeaters-gt-MAX_REPEATERS
+returns-then-repeaters-gt-MAX_REPEATERS c =
+    let cut = c.as_chunks.ensures in
+    let whole = whole_of c.args.bytes.now _ c.is_empty.ensures c.if-not-is_empty.false cut.back_len in
+    too_many _ _ whole cut.front cut.front_len c.if-repeaters-gt-MAX_REPEATERS.true
 
 pub returns-then-not-all_in_range : goal.returns-then-not-all_in_range
 returns-then-not-all_in_range c =
-    simp (eq-eqb _ _ c.if-bytes-ne0.false)
-    (out_of_range _ _ c.if-count-gt-MAX_REPEATERS.false (sym c.all_in_range.ensures ∙ c.if-not-all_in_range.true))
+    let cut = c.as_chunks.ensures in
+    let whole = whole_of c.args.bytes.now _ c.is_empty.ensures c.if-not-is_empty.false cut.back_len in
+    out_of_range _ _ whole cut.front cut.front_len c.if-repeaters-gt-MAX_REPEATERS.false
+    (sym c.all_in_range.ensures ∙ c.if-not-all_in_range.true)
 
-pub first_unlawful-i-requires : goal.first_unlawful-i-requires
-first_unlawful-i-requires c = holds _ c.if-bytes-ne0.false c.if-count-gt-MAX_REPEATERS.false
-
-pub returns-then-i-count : goal.returns-then-i-count
-returns-then-i-count c =
-    simp (eq-eqb _ _ c.if-bytes-ne0.false)
-    (unlawful _ _ c.if-count-gt-MAX_REPEATERS.false
-    (sym c.all_in_range.ensures ∙ c.if-not-all_in_range.false)
-    (enough _ _ (holds _ c.if-bytes-ne0.false c.if-count-gt-MAX_REPEATERS.false)) _
-    c.first_unlawful-i.ensures c.if-i-count.true)
-
-pub first_overlap-requires : goal.first_overlap-requires
-first_overlap-requires c = holds _ c.if-bytes-ne0.false c.if-count-gt-MAX_REPEATERS.false
+pub returns-in-Some : goal.returns-in-Some
+returns-in-Some c =
+    let cut = c.as_chunks.ensures in
+    let whole = whole_of c.args.bytes.now _ c.is_empty.ensures c.if-not-is_empty.false cut.back_len in
+    unlawful _ _ whole cut.front cut.front_len c.if-repeaters-gt-MAX_REPEATERS.false
+    (sym c.all_in_range.ensures ∙ c.if-not-all_in_range.false) _
+    (subst (λ (r : Option ℕ). IsFirst is_unlawful (map assignment_of c.as_chunks.result.0.now) r) c.in-Some.is
+    c.first_unlawful.ensures)
 
 pub returns : goal.returns
 returns c =
-    simp (eq-eqb _ _ c.if-bytes-ne0.false)
-    (c.first_overlap.ensures
-    ∙ lawful_pairs _ _ c.if-count-gt-MAX_REPEATERS.false
+    let cut = c.as_chunks.ensures in
+    let whole = whole_of c.args.bytes.now _ c.is_empty.ensures c.if-not-is_empty.false cut.back_len in
+    c.first_overlap.ensures
+    ∙ lawful_pairs _ _ whole cut.front cut.front_len c.if-repeaters-gt-MAX_REPEATERS.false
     (sym c.all_in_range.ensures ∙ c.if-not-all_in_range.false)
-    (enough _ _ (holds _ c.if-bytes-ne0.false c.if-count-gt-MAX_REPEATERS.false)) _
-    c.first_unlawful-i.ensures c.if-i-count.false)
+    (subst (λ (r : Option ℕ). IsFirst is_unlawful (map assignment_of c.as_chunks.result.0.now) r) c.in_default.is
+    c.first_unlawful.ensures)

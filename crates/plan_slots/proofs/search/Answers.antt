@@ -1,30 +1,13 @@
--- The goals that a search does not find.
-use mathlib.Core.Path.{◌∙◌, sym}
-use native.Mathlib.Omega.{arith}
-use Rattle.plan_slots.proofs.Blocks.{at_start, at_next, at_end, found}
+-- `plan_slots::search` meets its contract: the plans are those with each first slot, in order.
+use borrow.Author.Rules.{rules}
+use Rattle.plan_slots.specs.Search.{plans_from}
 use Rattle.plan_slots.proofs.Split.{plans-split}
+use Rattle.plan_slots.proofs.Lookups.{is_counted}
 use Rattle.plan_slots.proofs.search.Goals as goal
 
-pub returns-in-Found : goal.returns-in-Found
-returns-in-Found c =
-    rw plans-split
-    (found _ _ _ c.loop-slot.invariant c.loop-slot-test.true
-    (sym c.in-Found.is ∙ c.search_from-found.ensures))
-
-pub loop-slot-preserved : goal.loop-slot-preserved
-loop-slot-preserved c =
-    at_next _ _ _ c.loop-slot.invariant c.loop-slot-test.true
-    (sym c.in-Counted.is ∙ c.search_from-found.ensures)
-
--- at most k plans are passed, and k fits
-pub overflow_add-passed : goal.overflow_add-passed
-overflow_add-passed c =
-    let next = at_next _ _ _ c.loop-slot.invariant c.loop-slot-test.true
-    (sym c.in-Counted.is ∙ c.search_from-found.ensures) in
-    omega (arith, next.before, c.ranges.k)
+pub search_slots-requires : goal.search_slots-requires
+search_slots-requires c =
+    record { callable = search rules; counts = λ slot k n s b e. (is_counted _ k e).2 }
 
 pub returns : goal.returns
-returns c = rw plans-split (at_end _ _ _ c.loop-slot.invariant c.loop-slot-test.false)
-
-pub loop-slot-init : goal.loop-slot-init
-loop-slot-init c = at_start _ _ _ _
+returns c = rw plans-split (c.search_slots.ensures (plans_from c.args.rule c.args.duration) (λ slot k r s b e. e))

@@ -1,5 +1,5 @@
 -- `radio_erp1::check` meets its contract: each return is one case of `check_of`.
-use Rattle.std.proofs.Common.{ap, ◌∙◌, arith, length-take, rules}
+use Rattle.std.proofs.Common.{ap, ◌∙◌, arith, length-take}
 use Rattle.base_refusal.specs.Number.{number_of}
 use Rattle.radio_erp1.proofs.Checks.{check-short, check-long, check_hash, check-plain, check_cut, check_nested, check-addressed}
 use Rattle.radio_erp1.proofs.check.Goals as goal

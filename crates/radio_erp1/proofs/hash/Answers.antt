@@ -1,5 +1,5 @@
 -- `radio_erp1::hash` meets its contract: of no bytes STATUS reads 0, so the sum is asked, which is 0.
-use Rattle.std.proofs.Common.{◌∙◌, rules, eqb-true}
+use Rattle.std.proofs.Common.{◌∙◌, eqb-true}
 use borrow.Author.Tests.{eqb-false}
 use Rattle.radio_erp1.proofs.Checks.{hash_crc, hash_sum, hash_none}
 use Rattle.radio_erp1.proofs.hash.Goals as goal

@@ -1,5 +1,5 @@
 -- `radio_erp1::same` meets its contract: each return is one case of `is_same`.
-use Rattle.std.proofs.Common.{◌∙◌, arith, rules}
+use Rattle.std.proofs.Common.{◌∙◌, arith}
 use Rattle.radio_erp1.proofs.Sames.{other_length, only_hash, other_upper, by_front}
 use Rattle.radio_erp1.proofs.same.Goals as goal
 

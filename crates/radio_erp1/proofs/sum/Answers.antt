@@ -1,5 +1,5 @@
 -- The goals that a search does not find.
-use Rattle.std.proofs.Common.{◌≡◌, ℕ, ◌+◌, ◌-◌, ◌%◌, ◌<◌, ◌≤◌, List, length, get_or, drop, add-one, arith, drop_of_length-le, drop-cons, rules}
+use Rattle.std.proofs.Common.{◌≡◌, ℕ, ◌+◌, ◌%◌, ◌<◌, ◌≤◌, List, length, get_or, drop, add-one, arith, drop_of_length-le, drop-cons}
 use Rattle.radio_erp1.specs.Subtelegram.{sum_of}
 use Rattle.radio_erp1.proofs.sum.Goals as goal
 

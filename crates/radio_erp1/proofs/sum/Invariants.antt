@@ -1,6 +1,6 @@
 -- `radio_erp1::sum` meets its contract. The loop's invariant: the sum so far and that of the bytes left agree with the whole sum, modulo 256.
 -- The measure is what is left of the length.
-use Rattle.std.proofs.Common.{◌≡◌, ℕ, ◌+◌, ◌-◌, ◌%◌, ◌<◌, ◌≤◌, List, length, get_or, drop, add-one, arith, drop_of_length-le, drop-cons, rules}
+use Rattle.std.proofs.Common.{◌≡◌, ℕ, ◌+◌, ◌-◌, ◌%◌, ◌<◌, ◌≤◌, List, length, drop}
 use Rattle.radio_erp1.specs.Subtelegram.{sum_of}
 use Rattle.radio_erp1.proofs.sum.Given as goal
 

@@ -1,5 +1,4 @@
 -- `radio_erp1::wrong_hash` meets its contract, a case for each selector.
-use Rattle.std.proofs.Common.{rules}
 use Rattle.radio_erp1.proofs.wrong_hash.Goals as goal
 
 pub returns-then-parts : goal.returns-then-parts

@@ -1,10 +1,12 @@
 -- `radio_erp2::small` meets its contract.
-use native.Mathlib.Omega.{arith}
-use Rattle.radio_erp2.proofs.Parts.{unbe_none, unbe_one}
+use mathlib.Core.Path.{ap, ◌∙◌}
+use Prim.Native.Nat.{ℕ}
+use Rattle.std.specs.Prelude.{Option, unwrap_or}
+use Rattle.radio_erp2.proofs.Parts.{first_number}
 use Rattle.radio_erp2.proofs.small.Goals as goal
 
-pub returns-then-part-eq0 : goal.returns-then-part-eq0
-returns-then-part-eq0 c = unbe_none _ c.if-part-eq0.true
-
 pub returns : goal.returns
-returns c = unbe_one _ (omega arith) c.requires
+returns c =
+    c.unwrap_or.ensures
+    ∙ ap (λ (o : Option ℕ). unwrap_or o 0) (c.copied.ensures ∙ c.first.ensures.value)
+    ∙ first_number _ c.requires

@@ -1,5 +1,5 @@
 -- `take_bench::taken_all` is safe and ends. The loop's invariant: i cells are at most those there are; the measure is what is left of them.
-use Rattle.std.proofs.Common.{◌≡◌, ℕ, ◌-◌, ◌/◌, ◌≤◌, List, length, rules}
+use Rattle.std.proofs.Common.{◌≡◌, ℕ, ◌-◌, ◌/◌, ◌≤◌, List, length}
 use Rattle.take_bench.proofs.taken_all.Given as goal
 
 pub record Taking (cells : List ℕ) (i-end i : ℕ) : Type 0 where

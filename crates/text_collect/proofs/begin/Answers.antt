@@ -3,6 +3,6 @@ use mathlib.Core.Path.{ap}
 use Rattle.text_collect.specs.Session.{running_at}
 use Rattle.text_collect.proofs.begin.Goals as goal
 
-pub returns-in-Level : goal.returns-in-Level
-returns-in-Level c =
-    rw c.in-Level.is (ap (running_at c.in-Level.n) c.fresh-c.ensures.state)
+pub returns-in-Some : goal.returns-in-Some
+returns-in-Some c =
+    rw c.in-Some.is (ap (running_at c.in-Some.n) c.fresh-c.ensures.state)

@@ -29,4 +29,4 @@ merge_lines-done-requires c =
 
 pub returns : goal.returns
 unfolding view_of
-returns c = c.merge_lines-done.ensures
+returns c = c.merge_lines-done.ensures.ran

@@ -6,7 +6,7 @@ use mathlib.Core.List.{List}
 use Prim.Native.Nat.{ℕ, ◌-◌, ◌≤◌}
 use lib.ListN.{length, take}
 use Rattle.collector_model.specs.View.{View}
-use Rattle.collector_state.specs.Collector.{columns, view_in}
+use Rattle.collector_state.specs.Collector.{columns_lent, view_in, SameArrays}
 use Rattle.collector_state.specs.Admission.{Tested}
 use Rattle.text_program.specs.Collect.{collect}
 use Rattle.text_program.specs.Buffer.{Fed}
@@ -23,9 +23,9 @@ pub record Merging (fit : Bool) (setting : ℕ) (v₀ : View) (input out₀ : Li
 
 abbrev pub invariant-loop-out : goal.invariant-loop-out
 invariant-loop-out l =
-    Merging l.fit l.setting (view_in (columns l.initial.times l.initial.lens l.initial.entries l.initial.copies)
-    l.initial.summary) l.input l.initial.out
-    (view_in (columns l.times l.lens l.entries l.copies) l.summary) l.out l.at l.to
+    Merging l.fit l.setting (view_in (columns_lent l.fn.state) l.fn.state.summary) l.input l.fn.out
+    (view_in (columns_lent l.state) l.state.summary) l.out l.at l.to
+    × SameArrays l.fn.state l.state
 
 abbrev pub decreases-loop-out : goal.decreases-loop-out
 decreases-loop-out l =

@@ -11,14 +11,8 @@ use Rattle.collector_state.specs.Admission.{relayed_for}
 use Rattle.base_buffers.proofs.Stores.{loosened, if_fits}
 use Rattle.collector_state.proofs.Sending.{relayed_fits}
 use Rattle.text_collect.proofs.Taking.{sent_front}
-use Rattle.text_collect.proofs.put_answer.Lts as lts
-use Rattle.text_collect.proofs.put_answer.Reads as reads
-use Rattle.text_collect.proofs.put_answer.Tie as tie
 use Rattle.text_collect.proofs.put_answer.Goals as goal
-
--- states on the way
-abbrev After-relay_kept-n : Type 0
-After-relay_kept-n = lts.After-relay_kept tie.the-claims reads.Pre reads.Post
+use Rattle.text_collect.proofs.put_answer.Goals.{After-relay_kept-n}
 
 -- what is sent
 abbrev sent : After-relay_kept-n → List ℕ
@@ -41,19 +35,14 @@ full c =
 
 pub slice_bounds-put_row-end : goal.slice_bounds-put_row-end
 slice_bounds-put_row-end c =
-    omega (arith, (front c.before.before.before).0, short c.before.before.before, full c.before.before.before)
+    let k = (goal.at.slice_bounds-put_row-end c).After-relay_kept-n in
+    omega (arith, (front k).0, short k, full k)
 
 pub returns : goal.returns
 returns c =
-    let c_back3 = c.before.before.before in
-    let c_back6 = c_back3.before.before.before in
+    let k = (goal.at.returns c).After-relay_kept-n in
     let z : c.relay_kept-n.result - 0 ≡ c.relay_kept-n.result = omega arith in
     let w =
-    rw (c.row_of.ensures, z, (front c_back6.before).1) at
-    (if_fits (omega (
-      arith,
-      (front c_back6.before).0,
-      short
-          c_back6.before,
-    )) c.put_row.ensures) in
-    loosened w (omega (arith, short c_back6.before))
+    rw (c.row_of.ensures, z, (front k).1) at
+    (if_fits (omega (arith, (front k).0, short k)) c.put_row.ensures) in
+    loosened w (omega (arith, short k))

@@ -4,10 +4,10 @@ use native.Mathlib.Omega.{arith}
 use Rattle.base_buffers.proofs.Stores.{loosened, if_fits}
 use Rattle.text_collect.proofs.put_first.Goals as goal
 
-pub returns-in-Level : goal.returns-in-Level
-returns-in-Level c = rw c.in-Level.is (record { bytes = refl; next = refl; short = omega arith })
+pub returns-in-Some : goal.returns-in-Some
+returns-in-Some c = rw c.in-Some.is (record { bytes = refl; next = refl; short = omega arith })
 
-pub returns-in-Bad : goal.returns-in-Bad
-returns-in-Bad c =
-    rw c.in-Bad.is
+pub returns-in-None : goal.returns-in-None
+returns-in-None c =
+    rw c.in-None.is
     (loosened (if_fits (omega arith) c.put_bad.ensures) (omega arith))

@@ -1,18 +1,12 @@
 -- The goals that a search does not find.
-use mathlib.Core.Path.{refl}
+use mathlib.Core.Path.{◌≡◌, refl}
 use Prim.Native.Nat.{ℕ, ◌≤◌}
 use native.Mathlib.Omega.{arith}
 use borrow.Author.Rules.{rules}
 use lib.ListN.{length-set}
 use Rattle.text_lines.proofs.Pairs.{left_all, left_next, both_digits, decoded_all, decoded_front}
-use Rattle.text_lines.proofs.decode_pairs.Lts as lts
-use Rattle.text_lines.proofs.decode_pairs.Reads as reads
-use Rattle.text_lines.proofs.decode_pairs.Tie as tie
+use Rattle.text_lines.proofs.decode_pairs.Goals.{Else-high-low}
 use Rattle.text_lines.proofs.decode_pairs.Goals as goal
-
--- states on the way
-abbrev Else-high-low : Type 0
-Else-high-low = lts.Else1 tie.the-claims reads.Pre reads.Post goal.the-invariant-loop-i goal.the-decreases-loop-i
 
 pub loop-i-init : goal.loop-i-init
 loop-i-init c = record { pairs = search rules; long = refl; rest = left_all _ }
@@ -29,10 +23,10 @@ module _ (c : Else-high-low) where
   digits = both_digits high low c.if-high-low.false
 
 pub overflow_mul-bytes : goal.overflow_mul-bytes
-overflow_mul-bytes c = let d = digits c.before in search rules
+overflow_mul-bytes c = let d = digits (goal.at.overflow_mul-bytes c).Else-high-low in search rules
 
 pub overflow_add-bytes : goal.overflow_add-bytes
-overflow_add-bytes c = let d = digits c.before in search rules
+overflow_add-bytes c = let d = digits (goal.at.overflow_add-bytes c).Else-high-low in search rules
 
 pub loop-i-preserved : goal.loop-i-preserved
 loop-i-preserved c =
@@ -46,8 +40,11 @@ loop-i-preserved c =
           c.if-high-low.false;
     }
 
-pub returns-after-loop-i : goal.returns-after-loop-i
-returns-after-loop-i c = decoded_all c.loop-i.invariant.rest (omega arith)
+pub returns : goal.returns
+returns c =
+    let l = c.loop-i in
+    let all : c.min-limit.result ≡ l.i = omega arith in
+    rw all (decoded_all l.invariant.rest (omega (arith, l.invariant.pairs)))
 
 pub returns-then-high-low : goal.returns-then-high-low
 returns-then-high-low c =

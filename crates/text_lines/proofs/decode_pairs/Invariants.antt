@@ -1,8 +1,7 @@
 -- `text_lines::decode_pairs` meets its contract. The invariant: the count and the stores of the pairs that are left are those of all.
--- The measure is what is left of the limit.
 use mathlib.Core.Path.{◌≡◌}
 use mathlib.Core.List.{List}
-use Prim.Native.Nat.{ℕ, min, ◌-◌, ◌/◌}
+use Prim.Native.Nat.{ℕ, min, ◌/◌}
 use lib.ListN.{length}
 use Rattle.text_lines.proofs.Pairs.{Left}
 use Rattle.text_lines.proofs.decode_pairs.Given as goal
@@ -14,6 +13,3 @@ pub record Decoding (s : List ℕ) (limit i : ℕ) (bytes : List ℕ) : Type 0 w
 
 abbrev pub invariant-loop-i : goal.invariant-loop-i
 invariant-loop-i l = Decoding l.s l.limit l.i l.bytes
-
-abbrev pub decreases-loop-i : goal.decreases-loop-i
-decreases-loop-i l = l.limit - l.i

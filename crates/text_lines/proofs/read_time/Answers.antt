@@ -1,69 +1,34 @@
--- The goals that a search does not find.
-use mathlib.Core.Path.{◌≡◌, sym, ◌∙◌}
-use mathlib.Core.List.{List}
-use Prim.Native.Nat.{ℕ, ◌<◌}
-use native.Mathlib.Omega.{arith}
-use lib.ListN.{length, get_or}
-use Rattle.text_lines.specs.Decimal.{appended}
-use Rattle.text_lines.specs.declared.Number.{Number}
-use Rattle.text_lines.proofs.Times.{begun_none, begun_next, wrong_digit, no_digit, zero_first, timed, all_passed}
-use Rattle.text_lines.proofs.read_time.Lts as lts
-use Rattle.text_lines.proofs.read_time.Reads as reads
-use Rattle.text_lines.proofs.read_time.Tie as tie
+-- `text_lines::read_time` meets its contract: the digits at the front of the text, and the space behind them.
+use Rattle.std.proofs.Common.{◌≡◌, sym, ◌∙◌, rules, tests}
+use Rattle.std.proofs.lemmas.Iterator.{YieldsList-from_slice}
+use Rattle.std.proofs.lemmas.Iterator.Search.{position_from_yields_List}
+use Rattle.text_lines.proofs.Times.{is_other, found, endless, ends_large, ends_time, ends_wrong}
+use Rattle.text_lines.proofs.read_time.Goals.{After-position}
 use Rattle.text_lines.proofs.read_time.Goals as goal
 
--- states on the way
-abbrev In_default : Type 0
-In_default = lts.Past-After-enum_told tie.the-claims reads.Pre reads.Post goal.the-invariant-loop-i
-    goal.the-decreases-loop-i
+-- where the search ended
+searched : (c : After-position) → c.position.result ≡ found c.args.text.now
+searched c =
+    position_from_yields_List is_other _ _ c.position.result c.position.ensures.ran
+    (YieldsList-from_slice c.args.text.now (cc)) (λ x b q k. search (rules, tests))
 
-pub loop-i-init : goal.loop-i-init
-loop-i-init c = record { bounded = omega arith; begun = begun_none _ }
+pub returns-in_err-end : goal.returns-in_err-end
+returns-in_err-end c =
+    let h = searched (goal.at.returns-in_err-end c).After-position in
+    c.from_residual.ensures ∙ endless c.args.text.now (sym h ∙ c.in_err-end.was)
 
--- a character that goes on no number
-module _ (e : In_default) where
-  abbrev text : List ℕ
-  text = e.args.text.now
+pub returns-then-text-end-ne32 : goal.returns-then-text-end-ne32
+returns-then-text-end-ne32 c =
+    let h = searched (goal.at.returns-then-text-end-ne32 c).After-position in
+    ends_wrong c.args.text.now (sym h ∙ c.in_ok-end.was) c.if-text-end-ne32.true
 
-  abbrev i : ℕ
-  i = e.loop-i.i
-
-  more : i < length text
-  more = e.loop-i-test.true
-
-  ends : appended e.loop-i.time (get_or text i 0) ≡ Number.Bad
-  ends = sym e.append.ensures ∙ e.in_default.is
-
-pub returns-then-text-i-ne32 : goal.returns-then-text-i-ne32
-returns-then-text-i-ne32 c =
-    wrong_digit c.loop-i.invariant.begun (more c.before.before.before) c.if-text-i-ne32.true
-    (ends c.before.before.before)
-
-pub returns-then-i-eq0 : goal.returns-then-i-eq0
-returns-then-i-eq0 c =
-    let c_back3 = c.before.before.before in
-    no_digit c.loop-i.invariant.begun (more c_back3.before) c.if-text-i-ne32.false c.if-i-eq0.true
-
-pub returns-then-i-text : goal.returns-then-i-text
-returns-then-i-text c =
-    let c_back3 = c.before.before.before in
-    zero_first c.loop-i.invariant.begun (more c_back3.before.before.before) c.if-text-i-ne32.false
-    c.if-i-eq0.false c.if-i-text.true
-
-pub returns-in_default : goal.returns-in_default
-returns-in_default c =
-    let c_back3 = c.before.before.before in
-    timed c.loop-i.invariant.begun (more c_back3.before.before.before) c.if-text-i-ne32.false
-    c.if-i-eq0.false c.if-i-text.false
-
-pub loop-i-preserved : goal.loop-i-preserved
-loop-i-preserved c =
-    record {
-      bounded = omega arith;
-      begun =
-          begun_next c.loop-i.invariant.begun c.loop-i-test.true
-          (sym c.append.ensures ∙ c.in-Value.is);
-    }
+pub returns-in_err-number : goal.returns-in_err-number
+returns-in_err-number c =
+    let h = searched (goal.at.returns-in_err-number c).After-position in
+    c.from_residual-in_err-number.ensures
+    ∙ ends_large c.args.text.now (sym h ∙ c.in_ok-end.was) c.if-text-end-ne32.false c.in_err-number.ensures
 
 pub returns : goal.returns
-returns c = all_passed c.loop-i.invariant.begun c.loop-i-test.false
+returns c =
+    let h = searched (goal.at.returns c).After-position in
+    ends_time c.args.text.now (sym h ∙ c.in_ok-end.was) c.if-text-end-ne32.false c.in_ok-number.ensures

@@ -11,13 +11,11 @@ pub returns : goal.returns
 returns c =
     let a = c.args in
     let input = a.input.now in
-    let buffer = a.buffer.now in
-    let n = c.least-n.result in
-    let h = c.requires in
+    let n = c.min-n.result in
     let e : a.at + n - a.at ≡ n = omega arith in
-    let long = length-take-le n (drop a.at input) (omega (arith, c.least-n.ensures, length-drop a.at input)) in (
-      c.least-n.ensures,
-      rw long at
-          (copied-part buffer a.kept (take n (drop a.at input))
-          (omega (arith, c.least-n.ensures, h.1, h.2)) (rw e at c.copy.ensures.1)),
+    let long = length-take-le n (drop a.at input) (omega (arith, c.min-n.ensures, length-drop a.at input)) in (
+      c.min-n.ensures,
+      rw (rw e at c.copy_from_slice.ensures.after)
+          (rw long at (copied-part a.buffer.now a.kept (a.kept + n - a.kept) (take n (drop a.at input))
+          (omega (arith, long)))),
     )

@@ -2,4 +2,4 @@
 use Rattle.text_print.proofs.step.Goals as goal
 
 pub returns : goal.returns
-returns c = rw c.least.ensures at c.take_chunk.ensures
+returns c = rw c.min.ensures at c.take_chunk.ensures

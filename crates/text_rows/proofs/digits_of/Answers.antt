@@ -14,7 +14,7 @@ loop-k-init c =
 
 pub hex_digit-requires : goal.hex_digit-requires
 hex_digit-requires c =
-    omega (arith, c.shared_slice_known-in-loop-k-1.given (c.args.from + c.loop-k.k))
+    omega (arith, c.type_inv.s (c.args.from + c.loop-k.k))
 
 pub loop-k-preserved : goal.loop-k-preserved
 loop-k-preserved c =

@@ -8,26 +8,25 @@ use Rattle.text_rows.specs.Text.{hex_text}
 use Rattle.text_rows.proofs.Words.{hex_next, hex-length}
 use Rattle.text_rows.proofs.write_pairs.Goals as goal
 
-pub loop-i-init : goal.loop-i-init
-loop-i-init c = record { bounded = search rules; place = search rules; long = refl; stores = refl }
+pub loop-b-init : goal.loop-b-init
+loop-b-init c = record { place = search rules; long = refl; stores = refl }
 
 pub hex_digit-requires : goal.hex_digit-requires
-hex_digit-requires c = omega (arith, c.shared_slice_known-in-loop-i-1.given c.loop-i.i)
+hex_digit-requires c = omega (arith, c.type_inv.s c.loop-b.b-index)
 
-pub bounds-out-to-in-loop-i : goal.bounds-out-to-in-loop-i
-bounds-out-to-in-loop-i c = simp length-set (omega arith)
+pub bounds-out-to-in-loop-b : goal.bounds-out-to-in-loop-b
+bounds-out-to-in-loop-b c = simp length-set (omega arith)
 
-pub loop-i-preserved : goal.loop-i-preserved
-loop-i-preserved c =
+pub loop-b-preserved : goal.loop-b-preserved
+loop-b-preserved c =
     let a = c.args in
-    let l = c.loop-i in
+    let l = c.loop-b in
     record {
-      bounded = omega arith;
       place = omega arith;
       long = simp length-set l.invariant.long;
       stores =
-          rw (c.hex_digit.ensures, c.hex_digit-in-loop-i.ensures)
-          (sym (hex_next l.out a.s.now l.to l.i (omega arith)))
+          rw (c.hex_digit.ensures, c.hex_digit-in-loop-b.ensures)
+          (sym (hex_next l.out a.s.now l.to l.b-index (omega arith)))
           ∙ l.invariant.stores;
     }
 
@@ -35,8 +34,8 @@ pub returns : goal.returns
 unfolding hex_text
 returns c =
     let a = c.args in
-    let l = c.loop-i in
-    let h : length a.s.now ≤ l.i = omega arith in
+    let l = c.loop-b in
+    let h : length a.s.now ≤ l.b-index = omega arith in
     record {
       bytes = rw (drop_of_length-le a.s.now h) at l.invariant.stores;
       next = omega (arith, hex-length a.s.now);

@@ -1,5 +1,5 @@
 -- `archive_report::Adding::end` meets its contract.
-use mathlib.Core.Path.{sym, ap, ◌∙◌}
+use mathlib.Core.Path.{refl, sym, ap, ◌∙◌}
 use Rattle.base_refusal.specs.declared.Refusal.TheVariants.{NotAccepted}
 use Rattle.archive_report_model.specs.Report.{Addition}
 use Rattle.archive_report_model.specs.Pieces.{closing}
@@ -11,9 +11,8 @@ pub returns-then-not-is_adding : goal.returns-then-not-is_adding
 returns-then-not-is_adding c =
     let a = c.args.self in
     let is = end_not (adding_of a) (sym c.is_adding.ensures ∙ c.if-not-is_adding.true) in record {
-      result_value = c.kept.ensures.0 ∙ is;
-      lines_value = stay _ NotAccepted a.lines a.before.lines
-          (sym (ap (λ (x : Addition). x.number) is)) c.kept.ensures.1;
+      result_value = is;
+      lines_value = stay _ NotAccepted a.lines a.before.lines (sym (ap (λ (x : Addition). x.number) is)) refl;
     }
 
 pub returns : goal.returns

@@ -9,14 +9,10 @@ use borrow.Author.Tests.{eq-eqb}
 use Rattle.archive_model.specs.Buffer.{blocks_in}
 use Rattle.archive_model.proofs.Scans.{scan_facts}
 use Rattle.archive_file.proofs.Calls.{whole_facts}
-use Rattle.base_refusal.specs.Number.{number_of}
-use Rattle.base_refusal.specs.declared.Refusal.{Refusal}
 use Rattle.base_refusal.specs.declared.Refusal.TheVariants.{NotAccepted, Size}
 use Rattle.archive_report_model.specs.Pieces.{Tally, add_blocks, adding, PieceAdded, piece_answer, add_piece_of}
 use Rattle.archive_report_model.proofs.Adding.{going}
-use Rattle.archive_report.specs.declared.Adding.{Adding}
-use Rattle.archive_report.specs.declared.Fed.{Fed}
-use Rattle.archive_report.specs.Report.{report_of, adding_of, add_piece_result, lines_fed}
+use Rattle.archive_report.specs.Report.{report_of, adding_of, lines_fed}
 use Rattle.archive_report.specs.Lines.{with_lines}
 use Rattle.archive_report.specs.Private.{tally_of}
 use Rattle.archive_file.specs.Archive.{scan_of}
@@ -25,19 +21,7 @@ use Rattle.archive_report.proofs.Blocks.{sane_as, going_sane}
 use Rattle.archive_report.proofs.Calls.{stay, feed-not, feed-size, feed-done}
 use Rattle.archive_report.proofs.Adding.feed.Goals as goal
 
--- what is handed back beside a refusal
-refusal : (a : Adding) (r : Fed) (why : Refusal) (f : PieceAdded) → piece_answer (number_of why) (adding_of a) ≡ f
-    → add_piece_result r ≡ piece_answer (number_of why) (adding_of a) → r.next ≡ a
-    → (add_piece_result r ≡ f) × ((r.next.before ≡ a.before) × (r.next.lines ≡ lines_fed f a.lines))
-refusal a r why f is e s = (
-  e ∙ is,
-  (
-    ap (λ (x : Adding). x.before) s,
-    stay f.number why _ a.lines (sym (ap (λ (x : PieceAdded). x.number) is)) (ap (λ (x : Adding). x.lines) s),
-  ),
-)
-
--- and after a piece
+-- the lines after a piece
 fed-lines : {xs : List ℕ} (f : PieceAdded) (old : List ℕ) → f.number ≡ 0
     → xs ≡ with_lines f.next.tally.lines old → xs ≡ lines_fed f old
 fed-lines f old z h = rw (eq-eqb f.number 0 z) h
@@ -45,11 +29,11 @@ fed-lines f old z h = rw (eq-eqb f.number 0 z) h
 pub returns-then-not-is_adding : goal.returns-then-not-is_adding
 returns-then-not-is_adding c =
     let a = c.args in
-    let is =
-    feed-not (adding_of a.self)
-    (sym c.is_adding.ensures ∙ c.if-not-is_adding.true) a.piece.now in
-    let both = refusal a.self c.unchanged.result NotAccepted _ is c.unchanged.ensures.0 c.unchanged.ensures.1 in
-    record { result_value = both.0; before_value = both.1 }
+    let is = feed-not (adding_of a.self) (sym c.is_adding.ensures ∙ c.if-not-is_adding.true) a.piece.now in
+    record {
+      result_value = is;
+      before_value = (refl, stay _ NotAccepted _ a.self.lines (sym (ap (λ (x : PieceAdded). x.number) is)) refl);
+    }
 
 pub is_piece-requires : goal.is_piece-requires
 is_piece-requires c =
@@ -62,9 +46,10 @@ returns-then-not-is_piece c =
     let is =
     feed-size (adding_of a.self) (sym c.is_adding.ensures ∙ c.if-not-is_adding.false) a.piece.now
     (sym c.is_piece.ensures ∙ c.if-not-is_piece.true) in
-    let both = refusal a.self c.unchanged-then-not-is_piece.result Size _ is c.unchanged-then-not-is_piece.ensures.0
-    c.unchanged-then-not-is_piece.ensures.1 in
-    record { result_value = both.0; before_value = both.1 }
+    record {
+      result_value = is;
+      before_value = (refl, stay _ Size _ a.self.lines (sym (ap (λ (x : PieceAdded). x.number) is)) refl);
+    }
 
 pub add_blocks-t-requires : goal.add_blocks-t-requires
 add_blocks-t-requires c =
@@ -100,7 +85,7 @@ returns-then-t c =
     known old
     (λ i.
     record { lines = sym h i; kept = t.kept; loose = t.loose; over = t.over; scan = scan_of t.scan }) in record {
-      result_value = c.taken.ensures.0 ∙ is;
+      result_value = ap (piece_answer 0) c.taken.ensures.0 ∙ is;
       before_value = (
         c.taken.ensures.1,
         fed-lines (add_piece_of (adding_of c.args.self) c.args.piece.now) old
@@ -127,7 +112,7 @@ returns c =
     let t = c.add_blocks-t.result in
     let g = c.add_blocks-t.ensures.grows in
     let is = known new refl in record {
-      result_value = c.taken-2.ensures.0 ∙ is;
+      result_value = ap (piece_answer 0) c.taken-2.ensures.0 ∙ is;
       before_value = (
         c.taken-2.ensures.1,
         fed-lines (add_piece_of (adding_of c.args.self) c.args.piece.now) old

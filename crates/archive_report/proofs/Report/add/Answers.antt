@@ -1,7 +1,7 @@
 -- `archive_report::Report::add` meets its contract: the tally of all blocks is what the definition answers by.
 use native.Mathlib.Omega.{arith}
 use borrow.Author.Rules.{rules}
-use mathlib.Core.Path.{◌≡◌, sym, ap, ◌∙◌}
+use mathlib.Core.Path.{◌≡◌, refl, sym, ap, ◌∙◌}
 use mathlib.Core.List.{List}
 use lib.ListN.{length}
 use Rattle.archive_model.specs.Buffer.{blocks_in}
@@ -24,8 +24,8 @@ returns-then-not-is_report c =
     let is =
     add_not (report_of a.self)
     (sym c.is_report.ensures ∙ c.if-not-is_report.true) a.buffer.now in record {
-      result_value = c.kept.ensures.0 ∙ is;
-      lines_value = stay _ NotAccepted _ a.self.lines (sym (ap (λ (x : Addition). x.number) is)) c.kept.ensures.1;
+      result_value = is;
+      lines_value = stay _ NotAccepted _ a.self.lines (sym (ap (λ (x : Addition). x.number) is)) refl;
     }
 
 pub returns-then-not-is_whole : goal.returns-then-not-is_whole
@@ -34,9 +34,8 @@ returns-then-not-is_whole c =
     let is =
     add_size (report_of a.self) (sym c.is_report.ensures ∙ c.if-not-is_report.false) a.buffer.now
     (sym c.is_whole.ensures ∙ c.if-not-is_whole.true) in record {
-      result_value = c.kept-then-not-is_whole.ensures.0 ∙ is;
-      lines_value = stay _ Size _ a.self.lines
-          (sym (ap (λ (x : Addition). x.number) is)) c.kept-then-not-is_whole.ensures.1;
+      result_value = is;
+      lines_value = stay _ Size _ a.self.lines (sym (ap (λ (x : Addition). x.number) is)) refl;
     }
 
 pub add_blocks-t-requires : goal.add_blocks-t-requires

@@ -95,38 +95,8 @@ returns c =
     sym (rest_end a.lines.now a.count c.loop-i.i c.loop-i.k c.loop-i.l c.loop-i-test.false)
     ∙ c.loop-i.invariant.rest
 
-pub overflow_mul-k : goal.overflow_mul-k
-overflow_mul-k c = omega arith
-
-pub overflow_add-k : goal.overflow_add-k
-overflow_add-k c = omega arith
-
-pub offset_bounds-lines-i : goal.offset_bounds-lines-i
-offset_bounds-lines-i c = omega arith
-
-pub bounds-lines-i : goal.bounds-lines-i
-bounds-lines-i c = omega arith
-
 pub overflow_sub-k : goal.overflow_sub-k
 overflow_sub-k c = (within c.before.before).0
 
-pub overflow_mul-l : goal.overflow_mul-l
-overflow_mul-l c = omega arith
-
-pub overflow_add-l : goal.overflow_add-l
-overflow_add-l c = omega arith
-
-pub offset_bounds-lines-i-in-loop-i : goal.offset_bounds-lines-i-in-loop-i
-offset_bounds-lines-i-in-loop-i c = omega arith
-
-pub bounds-lines-i-in-loop-i : goal.bounds-lines-i-in-loop-i
-bounds-lines-i-in-loop-i c = omega arith
-
 pub overflow_sub-l : goal.overflow_sub-l
 overflow_sub-l c = (within c.before.before.before).1
-
-pub overflow_step-i : goal.overflow_step-i
-overflow_step-i c = omega arith
-
-pub loop-i-smaller : goal.loop-i-smaller
-loop-i-smaller c = omega arith

@@ -18,5 +18,7 @@ pub bounds-lines-at-5 : goal.bounds-lines-at-5
 bounds-lines-at-5 c = simp length-set (search rules)
 
 pub returns : goal.returns
-returns c = stored-line c.args.lines.now c.args.i c.args.identity c.args.kept
-    c.args.loose c.args.earliest c.args.latest (omega (arith, c.requires.0, c.requires.1))
+returns c =
+    let line = c.args.line in
+    stored-line c.args.lines.now c.args.i line.identity line.kept line.loose line.earliest line.latest
+    (omega (arith, c.requires.0, c.requires.1))

@@ -8,8 +8,7 @@ use lib.ListN.{length}
 use lib.Dec.{ltb}
 use Rattle.block_layout.specs.Block.{cells_per_block}
 use Rattle.archive_model.specs.Row.{Row, row_count, is_sound}
-use Rattle.archive_model.specs.Buffer.{Scan, scan_block}
-use Rattle.archive_model.specs.Append.{Feeding}
+use Rattle.archive_model.specs.Buffer.{Scan}
 use Rattle.archive_file.specs.Archive.{scan_of}
 use Rattle.archive_file.specs.declared.Scan as scan
 use Rattle.archive_report_model.specs.Report.{max_lines, add_rows, loose_in}
@@ -20,7 +19,7 @@ use Rattle.archive_report.specs.Lines.{lines_at}
 use Rattle.archive_report.specs.Private.{rows_between, AddedRows, tally_of}
 use Rattle.archive_report.proofs.Windows.{lines-count, lines_none}
 use Rattle.archive_model.proofs.Scans.{rows_after, used_few}
-use Rattle.archive_report.proofs.Blocks.{between_length, loose_few, fed, counted_rows_lem, used_rows, scan_few, over_block, done-block, over_before, over_now}
+use Rattle.archive_report.proofs.Blocks.{between_length, loose_few, counted_rows_lem, used_rows, scan_few, over_block, done-block, over_before, over_now}
 use Rattle.archive_report.proofs.Arrays.{grows_over}
 use Rattle.archive_report.proofs.tally.add_block.Goals as goal
 
@@ -41,16 +40,16 @@ module _ {n m : ℕ} {rows : List Row} {old new : List ℕ} (added : AddedRows n
   few_there : m ≤ max_lines → length (lines_at new m) ≤ max_lines
   few_there h = omega (arith, lines-count new 0 m, h)
 
+pub scan_after-next-requires : goal.scan_after-next-requires
+scan_after-next-requires c = (c.requires.0, c.requires.2, c.requires.3.scanned)
+
 pub returns-then-t : goal.returns-then-t
 returns-then-t c =
     let block = c.args.block.now in
-    let scanned : scan_of c.feed-fed.result.next ≡ scan_block (scan_of c.args.t.scan) block =
-    ap (λ (f : Feeding). f.next)
-    (c.feed-fed.ensures ∙ fed block (scan_of c.args.t.scan) c.requires.0 c.requires.3.scanned c.requires.2) in
     let a = c.args in
     let xs = a.lines.now in record {
-      lines_after = none_left xs c.overflowed.result c.feed-fed.result.next c.overflowed.ensures
-          ∙ over_block (tally_of a.t xs) block (scan_of c.feed-fed.result.next) scanned
+      lines_after = none_left xs c.overflowed.result c.scan_after-next.result c.overflowed.ensures
+          ∙ over_block (tally_of a.t xs) block (scan_of c.scan_after-next.result) c.scan_after-next.ensures
           (over_before (tally_of a.t xs)
           (ltb max_lines (length (add_rows (counted_rows block) (lines_at xs a.t.count)))) c.if-t.true);
       grows = grows_over a.t c.overflowed.result xs xs (ap (λ (v : Tally). v.over) c.overflowed.ensures)
@@ -60,12 +59,9 @@ returns-then-t c =
 pub add_rows-n-requires : goal.add_rows-n-requires
 add_rows-n-requires c =
     let block = c.args.block.now in
-    let scanned : scan_of c.feed-fed.result.next ≡ scan_block (scan_of c.args.t.scan) block =
-    ap (λ (f : Feeding). f.next)
-    (c.feed-fed.ensures ∙ fed block (scan_of c.args.t.scan) c.requires.0 c.requires.3.scanned c.requires.2) in
-    let grown : c.feed-fed.result.next.rows ≡ c.args.t.scan.rows + cond (is_sound block) (row_count block) 0 =
-    ap (λ (s : Scan). s.rows) scanned ∙ rows_after block (scan_of c.args.t.scan) in
-    let used = c.feed-fed.result.next.rows - c.args.t.scan.rows in
+    let grown : c.scan_after-next.result.rows ≡ c.args.t.scan.rows + cond (is_sound block) (row_count block) 0 =
+    ap (λ (s : Scan). s.rows) c.scan_after-next.ensures ∙ rows_after block (scan_of c.args.t.scan) in
+    let used = c.scan_after-next.result.rows - c.args.t.scan.rows in
     let used_is : used ≡ cond (is_sound block) (row_count block) 0 = omega (arith, grown) in
     let few : used ≤ cells_per_block = used_few block used used_is in
     let a = c.args in (
@@ -81,19 +77,16 @@ add_rows-n-requires c =
 pub returns-then-n-gt-MAX_LINES : goal.returns-then-n-gt-MAX_LINES
 returns-then-n-gt-MAX_LINES c =
     let block = c.args.block.now in
-    let scanned : scan_of c.feed-fed.result.next ≡ scan_block (scan_of c.args.t.scan) block =
-    ap (λ (f : Feeding). f.next)
-    (c.feed-fed.ensures ∙ fed block (scan_of c.args.t.scan) c.requires.0 c.requires.3.scanned c.requires.2) in
-    let grown : c.feed-fed.result.next.rows ≡ c.args.t.scan.rows + cond (is_sound block) (row_count block) 0 =
-    ap (λ (s : Scan). s.rows) scanned ∙ rows_after block (scan_of c.args.t.scan) in
-    let used = c.feed-fed.result.next.rows - c.args.t.scan.rows in
+    let grown : c.scan_after-next.result.rows ≡ c.args.t.scan.rows + cond (is_sound block) (row_count block) 0 =
+    ap (λ (s : Scan). s.rows) c.scan_after-next.ensures ∙ rows_after block (scan_of c.args.t.scan) in
+    let used = c.scan_after-next.result.rows - c.args.t.scan.rows in
     let used_is : used ≡ cond (is_sound block) (row_count block) 0 = omega (arith, grown) in
     let rows : rows_between block 0 used ≡ counted_rows block = counted_rows_lem block used used_is in
     let a = c.args in
     let xs = a.lines.now in record {
-      lines_after = none_there c.add_rows-n.ensures c.overflowed-then-n-gt-MAX_LINES.result c.feed-fed.result.next
+      lines_after = none_there c.add_rows-n.ensures c.overflowed-then-n-gt-MAX_LINES.result c.scan_after-next.result
           c.overflowed-then-n-gt-MAX_LINES.ensures
-          ∙ over_block (tally_of a.t xs) block (scan_of c.feed-fed.result.next) scanned
+          ∙ over_block (tally_of a.t xs) block (scan_of c.scan_after-next.result) c.scan_after-next.ensures
           (over_now (tally_of a.t xs) (length (add_rows (counted_rows block) (lines_at xs a.t.count)))
           (omega (
             arith,
@@ -108,12 +101,9 @@ returns-then-n-gt-MAX_LINES c =
 pub loose_rows-loose-requires : goal.loose_rows-loose-requires
 loose_rows-loose-requires c =
     let block = c.args.block.now in
-    let scanned : scan_of c.feed-fed.result.next ≡ scan_block (scan_of c.args.t.scan) block =
-    ap (λ (f : Feeding). f.next)
-    (c.feed-fed.ensures ∙ fed block (scan_of c.args.t.scan) c.requires.0 c.requires.3.scanned c.requires.2) in
-    let grown : c.feed-fed.result.next.rows ≡ c.args.t.scan.rows + cond (is_sound block) (row_count block) 0 =
-    ap (λ (s : Scan). s.rows) scanned ∙ rows_after block (scan_of c.args.t.scan) in
-    let used = c.feed-fed.result.next.rows - c.args.t.scan.rows in
+    let grown : c.scan_after-next.result.rows ≡ c.args.t.scan.rows + cond (is_sound block) (row_count block) 0 =
+    ap (λ (s : Scan). s.rows) c.scan_after-next.ensures ∙ rows_after block (scan_of c.args.t.scan) in
+    let used = c.scan_after-next.result.rows - c.args.t.scan.rows in
     let used_is : used ≡ cond (is_sound block) (row_count block) 0 = omega (arith, grown) in
     let few : used ≤ cells_per_block = used_few block used used_is in
     (c.requires.0, few)
@@ -121,24 +111,18 @@ loose_rows-loose-requires c =
 pub overflow_sub-result : goal.overflow_sub-result
 overflow_sub-result c =
     let block = c.args.block.now in
-    let scanned : scan_of c.feed-fed.result.next ≡ scan_block (scan_of c.args.t.scan) block =
-    ap (λ (f : Feeding). f.next)
-    (c.feed-fed.ensures ∙ fed block (scan_of c.args.t.scan) c.requires.0 c.requires.3.scanned c.requires.2) in
-    let grown : c.feed-fed.result.next.rows ≡ c.args.t.scan.rows + cond (is_sound block) (row_count block) 0 =
-    ap (λ (s : Scan). s.rows) scanned ∙ rows_after block (scan_of c.args.t.scan) in
-    let used = c.feed-fed.result.next.rows - c.args.t.scan.rows in
+    let grown : c.scan_after-next.result.rows ≡ c.args.t.scan.rows + cond (is_sound block) (row_count block) 0 =
+    ap (λ (s : Scan). s.rows) c.scan_after-next.ensures ∙ rows_after block (scan_of c.args.t.scan) in
+    let used = c.scan_after-next.result.rows - c.args.t.scan.rows in
     let used_is : used ≡ cond (is_sound block) (row_count block) 0 = omega (arith, grown) in
     omega (arith, c.loose_rows-loose.ensures, loose_few block 0 used)
 
 pub overflow_add-result : goal.overflow_add-result
 overflow_add-result c =
     let block = c.args.block.now in
-    let scanned : scan_of c.feed-fed.result.next ≡ scan_block (scan_of c.args.t.scan) block =
-    ap (λ (f : Feeding). f.next)
-    (c.feed-fed.ensures ∙ fed block (scan_of c.args.t.scan) c.requires.0 c.requires.3.scanned c.requires.2) in
-    let grown : c.feed-fed.result.next.rows ≡ c.args.t.scan.rows + cond (is_sound block) (row_count block) 0 =
-    ap (λ (s : Scan). s.rows) scanned ∙ rows_after block (scan_of c.args.t.scan) in
-    let used = c.feed-fed.result.next.rows - c.args.t.scan.rows in
+    let grown : c.scan_after-next.result.rows ≡ c.args.t.scan.rows + cond (is_sound block) (row_count block) 0 =
+    ap (λ (s : Scan). s.rows) c.scan_after-next.ensures ∙ rows_after block (scan_of c.args.t.scan) in
+    let used = c.scan_after-next.result.rows - c.args.t.scan.rows in
     let used_is : used ≡ cond (is_sound block) (row_count block) 0 = omega (arith, grown) in
     let few : used ≤ cells_per_block = used_few block used used_is in
     omega (arith, c.requires.3.totals, scan_few (scan_of c.args.t.scan) c.requires.3.scanned, few)
@@ -146,12 +130,9 @@ overflow_add-result c =
 pub overflow_add-result-2 : goal.overflow_add-result-2
 overflow_add-result-2 c =
     let block = c.args.block.now in
-    let scanned : scan_of c.feed-fed.result.next ≡ scan_block (scan_of c.args.t.scan) block =
-    ap (λ (f : Feeding). f.next)
-    (c.feed-fed.ensures ∙ fed block (scan_of c.args.t.scan) c.requires.0 c.requires.3.scanned c.requires.2) in
-    let grown : c.feed-fed.result.next.rows ≡ c.args.t.scan.rows + cond (is_sound block) (row_count block) 0 =
-    ap (λ (s : Scan). s.rows) scanned ∙ rows_after block (scan_of c.args.t.scan) in
-    let used = c.feed-fed.result.next.rows - c.args.t.scan.rows in
+    let grown : c.scan_after-next.result.rows ≡ c.args.t.scan.rows + cond (is_sound block) (row_count block) 0 =
+    ap (λ (s : Scan). s.rows) c.scan_after-next.ensures ∙ rows_after block (scan_of c.args.t.scan) in
+    let used = c.scan_after-next.result.rows - c.args.t.scan.rows in
     let used_is : used ≡ cond (is_sound block) (row_count block) 0 = omega (arith, grown) in
     let few : used ≤ cells_per_block = used_few block used used_is in
     omega (
@@ -166,12 +147,9 @@ overflow_add-result-2 c =
 pub returns : goal.returns
 returns c =
     let block = c.args.block.now in
-    let scanned : scan_of c.feed-fed.result.next ≡ scan_block (scan_of c.args.t.scan) block =
-    ap (λ (f : Feeding). f.next)
-    (c.feed-fed.ensures ∙ fed block (scan_of c.args.t.scan) c.requires.0 c.requires.3.scanned c.requires.2) in
-    let grown : c.feed-fed.result.next.rows ≡ c.args.t.scan.rows + cond (is_sound block) (row_count block) 0 =
-    ap (λ (s : Scan). s.rows) scanned ∙ rows_after block (scan_of c.args.t.scan) in
-    let used = c.feed-fed.result.next.rows - c.args.t.scan.rows in
+    let grown : c.scan_after-next.result.rows ≡ c.args.t.scan.rows + cond (is_sound block) (row_count block) 0 =
+    ap (λ (s : Scan). s.rows) c.scan_after-next.ensures ∙ rows_after block (scan_of c.args.t.scan) in
+    let used = c.scan_after-next.result.rows - c.args.t.scan.rows in
     let used_is : used ≡ cond (is_sound block) (row_count block) 0 = omega (arith, grown) in
     let rows : rows_between block 0 used ≡ counted_rows block = counted_rows_lem block used used_is in
     let a = c.args in
@@ -183,7 +161,7 @@ returns c =
     let o = c.loose_rows-loose.ensures ∙ ap loose_in rows in
     let n : length (counted_rows block) ≡ used =
     ap length (sym rows) ∙ between_length block 0 used in record {
-      lines_after = done-block t block (scan_of c.feed-fed.result.next) scanned _ _ _
+      lines_after = done-block t block (scan_of c.scan_after-next.result) c.scan_after-next.ensures _ _ _
           c.if-t.false is (few_there c.add_rows-n.ensures c.if-n-gt-MAX_LINES.false)
           (omega (arith, o, n, kinds (counted_rows block))) (omega (arith, o));
       grows = (
@@ -201,9 +179,6 @@ returns c =
 pub overflow_sub-used : goal.overflow_sub-used
 overflow_sub-used c =
     let block = c.args.block.now in
-    let scanned : scan_of c.feed-fed.result.next ≡ scan_block (scan_of c.args.t.scan) block =
-    ap (λ (f : Feeding). f.next)
-    (c.feed-fed.ensures ∙ fed block (scan_of c.args.t.scan) c.requires.0 c.requires.3.scanned c.requires.2) in
-    let grown : c.feed-fed.result.next.rows ≡ c.args.t.scan.rows + cond (is_sound block) (row_count block) 0 =
-    ap (λ (s : Scan). s.rows) scanned ∙ rows_after block (scan_of c.args.t.scan) in
+    let grown : c.scan_after-next.result.rows ≡ c.args.t.scan.rows + cond (is_sound block) (row_count block) 0 =
+    ap (λ (s : Scan). s.rows) c.scan_after-next.ensures ∙ rows_after block (scan_of c.args.t.scan) in
     omega (arith, grown)

@@ -1,5 +1,4 @@
--- `archive_report::tally::add_blocks` meets its contract. The invariant: the blocks that are left bring the tally so far to that of the whole; the
--- measure: the blocks left.
+-- `archive_report::tally::add_blocks` meets its contract. The invariant: the blocks that are left bring the tally so far to that of the whole.
 use mathlib.Core.Path.{◌≡◌}
 use mathlib.Core.List.{List}
 use Prim.Native.Nat.{ℕ, ◌+◌, ◌-◌, ◌/◌, ◌≤◌}
@@ -13,19 +12,14 @@ use Rattle.archive_report.specs.Lines.{lines_length}
 use Rattle.archive_report.specs.Private.{tally_of, Grows, Sane}
 use Rattle.archive_report.proofs.tally.add_blocks.Given as goal
 
-pub record Adding (lines₀ piece : List ℕ) (at₀ : code.Tally) (i-end : ℕ)
-    (lines : List ℕ) (at : code.Tally) (i : ℕ) : Type 0 where
-  pub bounded : i ≤ i-end
-  pub ends : i-end ≡ length piece / block_length
+pub record Adding (lines₀ piece : List ℕ) (at₀ : code.Tally) (lines : List ℕ) (at : code.Tally) (i : ℕ) : Type 0 where
+  pub bounded : i ≤ length piece / block_length
   pub long : length lines ≡ lines_length
   pub passed : at.scan.blocks ≡ at₀.scan.blocks + i
   pub sane : Sane (tally_of at lines)
   pub grows : Grows at₀ at lines₀ lines
-  pub rest : add_blocks (tally_of at lines) (blocks_from piece i (i-end - i))
+  pub rest : add_blocks (tally_of at lines) (blocks_from piece i (length piece / block_length - i))
       ≡ add_blocks (tally_of at₀ lines₀) (blocks_in piece)
 
-abbrev pub invariant-loop-i : goal.invariant-loop-i
-invariant-loop-i l = Adding l.initial.lines l.piece l.initial.at l.i-end l.lines l.at l.i
-
-abbrev pub decreases-loop-i : goal.decreases-loop-i
-decreases-loop-i l = l.i-end - l.i
+abbrev pub invariant-loop-block : goal.invariant-loop-block
+invariant-loop-block l = Adding l.fn.lines l.fn.piece l.fn.t l.lines l.at l.block-index

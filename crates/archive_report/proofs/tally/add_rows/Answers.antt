@@ -102,29 +102,5 @@ returns c =
       behind = λ h. c.loop-i.invariant.behind;
     }
 
-pub overflow_mul-at : goal.overflow_mul-at
-overflow_mul-at c = omega arith
-
-pub overflow_add-at : goal.overflow_add-at
-overflow_add-at c = omega arith
-
-pub overflow_add-at-in-loop-i : goal.overflow_add-at-in-loop-i
-overflow_add-at-in-loop-i c = omega arith
-
-pub slice_bounds-add_cell-count : goal.slice_bounds-add_cell-count
-slice_bounds-add_cell-count c = omega arith
-
-pub slice_bounds-add_cell-start : goal.slice_bounds-add_cell-start
-slice_bounds-add_cell-start c = omega arith
-
-pub slice_bounds-add_cell-end : goal.slice_bounds-add_cell-end
-slice_bounds-add_cell-end c = omega arith
-
-pub overflow_step-i : goal.overflow_step-i
-overflow_step-i c = omega arith
-
-pub loop-i-smaller : goal.loop-i-smaller
-loop-i-smaller c = omega arith
-
 pub shape_of-lines : goal.shape_of-lines
 shape_of-lines c = c.loop-i.invariant.running.long ∙ sym c.requires.4

@@ -1,9 +1,10 @@
 -- The goals that a search does not find.
 use native.Mathlib.Omega.{arith}
-use mathlib.Core.Path.{◌≡◌, ap, ◌∙◌}
+use mathlib.Core.Path.{◌≡◌, refl, ap, ◌∙◌}
 use mathlib.Core.Bool.{Bool, true, false, cond}
 use mathlib.Core.List.{List}
 use Prim.Native.Nat.{ℕ, ◌+◌, ◌*◌, ◌≤◌}
+use Rattle.std.specs.Int.{from_bool}
 use Rattle.block_layout.specs.Block.{header_length, block_cell}
 use Rattle.block_layout.specs.Cell.{cell_length}
 use Rattle.base_buffers.proofs.Segments.{part-ends}
@@ -15,15 +16,20 @@ use Rattle.archive_report.proofs.tally.loose_rows.Tie as tie
 use Rattle.archive_report.proofs.tally.loose_rows.Goals as goal
 
 -- states on the way
-abbrev After-one_if-n : Type 0
-After-one_if-n = lts.After-one_if tie.the-claims reads.Pre reads.Post goal.the-invariant-loop-i
+abbrev After-from-n : Type 0
+After-from-n = lts.After-from tie.the-claims reads.Pre reads.Post goal.the-invariant-loop-i
     goal.the-decreases-loop-i
 
-counted : (c : After-one_if-n)
+-- a bool as a number
+as_cond : (b : Bool) → from_bool b ≡ cond b 1 0
+as_cond true = refl
+as_cond false = refl
+
+counted : (c : After-from-n)
     → (
-    c.one_if-n.result ≡ cond (row_in (block_cell c.loop-i.i c.args.block.now)).loose 1 0)
+    c.from-n.result ≡ cond (row_in (block_cell c.loop-i.i c.args.block.now)).loose 1 0)
 counted c =
-    c.one_if-n.ensures
+    c.from-n.ensures ∙ as_cond c.is_loose.result
     ∙ ap (λ (b : Bool). cond b 1 0)
     (c.is_loose.ensures
     ∙ ap (λ (l : List ℕ). (row_in l).loose)
@@ -40,7 +46,8 @@ overflow_add-n c =
       c.loop-i.invariant.rest,
       loose_few c.args.block.now 0 c.args.used,
       c.requires.1,
-      c.one_if-n.ensures,
+      c.from-n.ensures,
+      as_cond c.is_loose.result,
       one_le c.is_loose.result,
     )
 
@@ -66,27 +73,3 @@ returns c =
 
 pub loop-i-init : goal.loop-i-init
 loop-i-init c = record { bounded = omega arith; rest = loose_first c.args.block.now c.args.used }
-
-pub overflow_mul-at : goal.overflow_mul-at
-overflow_mul-at c = omega arith
-
-pub overflow_add-at : goal.overflow_add-at
-overflow_add-at c = omega arith
-
-pub overflow_add-at-in-loop-i : goal.overflow_add-at-in-loop-i
-overflow_add-at-in-loop-i c = omega arith
-
-pub slice_bounds-is_loose-count : goal.slice_bounds-is_loose-count
-slice_bounds-is_loose-count c = omega arith
-
-pub slice_bounds-is_loose-start : goal.slice_bounds-is_loose-start
-slice_bounds-is_loose-start c = omega arith
-
-pub slice_bounds-is_loose-end : goal.slice_bounds-is_loose-end
-slice_bounds-is_loose-end c = omega arith
-
-pub overflow_step-i : goal.overflow_step-i
-overflow_step-i c = omega arith
-
-pub loop-i-smaller : goal.loop-i-smaller
-loop-i-smaller c = omega arith

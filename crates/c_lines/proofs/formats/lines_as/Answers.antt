@@ -1,5 +1,5 @@
 -- `c_lines::formats::lines_as` meets its contract: a case for each answer.
-use mathlib.Core.Path.{◌≡◌, refl, sym, subst, ◌∙◌}
+use mathlib.Core.Path.{◌≡◌, refl, sym, ap, subst, ◌∙◌}
 use mathlib.Core.Bool.{true, false}
 use native.Mathlib.Omega.{arith}
 use borrow.Author.Tests.{eqb-true}
@@ -8,83 +8,52 @@ use Rattle.collector_model.specs.Acceptable.{acceptable}
 use Rattle.collector_state.specs.declared.Summary.{Summary}
 use Rattle.collector_state.specs.Collector.{view_in}
 use Rattle.collector_state.specs.Admission.{Tested}
-use Rattle.c_collector.specs.State.{Arrays, arrays, columns_at, state_at}
+use Rattle.c_collector.specs.State.{Arrays, arrays_in, columns_at, state_at}
 use Rattle.c_lines.specs.Calls.{are_rows_sized}
-use Rattle.c_lines.proofs.formats.lines_as.Lts as lts
-use Rattle.c_lines.proofs.formats.lines_as.Reads as reads
-use Rattle.c_lines.proofs.formats.lines_as.Tie as tie
 use Rattle.c_lines.proofs.formats.lines_as.Goals as goal
-
--- states on the way
-abbrev Start : Type 0
-Start = lts.Start tie.the-claims reads.Pre reads.Post
-
-abbrev Else-not-is_acceptable : Type 0
-Else-not-is_acceptable = lts.Else1 tie.the-claims reads.Pre reads.Post
-
-abbrev Else-not-is_sized : Type 0
-Else-not-is_sized = lts.Else2 tie.the-claims reads.Pre reads.Post
-
-abbrev After-summary_of-summary : Type 0
-After-summary_of-summary = lts.After-summary_of tie.the-claims reads.Pre reads.Post
+use Rattle.c_lines.proofs.formats.lines_as.Goals.{Start, Else-not-is_acceptable, Else-not-is_sized}
 
 -- what is lent
 abbrev lent : Start → Arrays
-lent s =
-    let a = s.args in
-    arrays a.times.now a.lengths.now a.bytes.now a.copies.now a.numbers.now
+lent s = arrays_in s.args.state.now
 
-acceptable_here : (c : Else-not-is_acceptable) → (
-    let c_back3 = c.before.before.before in
-    let c_back6 = c_back3.before.before.before in
-    acceptable (state_at (lent c_back6.before)) ≡ true)
-acceptable_here c = sym (c.is_acceptable.ensures _) ∙ c.if-not-is_acceptable.false
+accepted : (c : Else-not-is_acceptable) → acceptable (state_at (arrays_in c.args.state.now)) ≡ true
+accepted c =
+    ap (λ (a : Arrays). acceptable (state_at a)) (sym c.held.ensures)
+    ∙ sym c.is_acceptable.ensures ∙ c.if-not-is_acceptable.false
 
-sized : (c : Else-not-is_sized)
-    → let a = c.args in are_rows_sized (length a.moments.now) (length a.rows.now) ≡ true
+sized : (c : Else-not-is_sized) → let a = c.args in
+    are_rows_sized (length a.moments.now) (length a.rows.now) ≡ true
 sized c = sym c.is_sized.ensures ∙ c.if-not-is_sized.false
 
-tested : (c : After-summary_of-summary) → (
-    let c_back3 = c.before.before.before in
-    let c_back6 = c_back3.before.before.before in
-    let c_back9 = c_back6.before.before.before in
-    let c_back12 = c_back9.before.before.before in
-    Tested true (view_in (columns_at (lent c_back12.before)) c.summary_of-summary.result))
-tested c =
-    let c_back3 = c.before.before.before in
-    let c_back6 = c_back3.before.before.before in
-    let c_back9 = c_back6.before.before.before in
-    let c_back12 = c_back9.before.before.before in
-    subst (λ (s : Summary). Tested true (view_in (columns_at (lent c_back12.before)) s))
-    (sym c.summary_of-summary.ensures.0)
-    (record { said = sym (acceptable_here c_back3.before.before.before); fits = c.summary_of-summary.ensures.1 _ _ _ })
-
-pub returns-then-not-is_acceptable : goal.returns-then-not-is_acceptable
-returns-then-not-is_acceptable c =
-    let c_back3 = c.before.before.before in
-    let c_back6 = c_back3.before.before.before in
-    let e : acceptable (state_at (lent c_back6.before.before.before)) ≡ false =
-    sym (c.is_acceptable.ensures _) ∙ c.if-not-is_acceptable.true in
+-- ---- what each return has to show
+pub returns-then-not-is_acceptable-clause-lines_as : goal.returns-then-not-is_acceptable-clause-lines_as
+returns-then-not-is_acceptable-clause-lines_as c =
+    let s = lent (goal.at.returns-then-not-is_acceptable-clause-lines_as c).Start in
+    let e : acceptable (state_at s) ≡ false =
+    ap (λ (a : Arrays). acceptable (state_at a)) (sym c.held.ensures)
+    ∙ sym c.is_acceptable.ensures ∙ c.if-not-is_acceptable.true in
     record {
       answer = rw e c.number.ensures;
       taken = λ z. absurd (omega (arith, c.number.ensures));
       stays = λ n. (refl, refl, refl, refl, refl, refl);
     }
 
-pub returns-then-not-is_sized : goal.returns-then-not-is_sized
-returns-then-not-is_sized c =
+pub returns-then-not-is_sized-clause-lines_as : goal.returns-then-not-is_sized-clause-lines_as
+returns-then-not-is_sized-clause-lines_as c =
+    let at = goal.at.returns-then-not-is_sized-clause-lines_as c in
     let e = sym c.is_sized.ensures ∙ c.if-not-is_sized.true in
     record {
-      answer = rw (acceptable_here c.before.before.before, e);
+      answer = rw (accepted at.Else-not-is_acceptable, e);
       taken = λ z. absurd (omega arith);
       stays = λ n. (refl, refl, refl, refl, refl, refl);
     }
 
-pub returns-then-setting-format : goal.returns-then-setting-format
-returns-then-setting-format c =
-    let c_back3 = c.before.before.before in
+pub returns-then-setting-format-clause-lines_as : goal.returns-then-setting-format-clause-lines_as
+returns-then-setting-format-clause-lines_as c =
+    let at = goal.at.returns-then-setting-format-clause-lines_as c in
     record {
-      answer = rw (acceptable_here c_back3.before.before, sized c.before.before.before, c.if-setting-format.true)
+      answer = rw (accepted at.Else-not-is_acceptable, sized at.Else-not-is_sized, c.if-setting-format.true)
           c.number-then-setting-format.ensures;
       taken = λ z. absurd (omega (arith, c.number-then-setting-format.ensures));
       stays = λ n. (refl, refl, refl, refl, refl, refl);
@@ -92,31 +61,21 @@ returns-then-setting-format c =
 
 pub take_rows_as-taken-requires : goal.take_rows_as-taken-requires
 take_rows_as-taken-requires c =
-    let c_back3 = c.before.before.before in
-    let c_back6 = c_back3.before.before.before in
-    let c_back9 = c_back6.before.before.before in
-    let c_back12 = c_back9.before.before.before in
-    (tested c_back9.before, eqb-true _ _ (sized c_back12.before.before))
+    let at = goal.at.take_rows_as-taken-requires c in
+    let told = sym (accepted at.Else-not-is_acceptable) in (
+      subst (λ (s : Summary). Tested true (view_in (columns_at (lent at.Start)) s))
+          (sym c.summary_of-summary.ensures.0)
+          (record { said = told; fits = c.summary_of-summary.ensures.1 _ _ _ }),
+      eqb-true _ _ (sized at.Else-not-is_sized),
+    )
 
-pub returns : goal.returns
-returns c =
-    let c_back3 = c.before.before.before in
-    let c_back6 = c_back3.before.before.before in
-    let c_back9 = c_back6.before.before.before in
-    let c_back12 = c_back9.before.before.before in
-    let c_back15 = c_back12.before.before.before in
-    let c_back18 = c_back15.before.before.before in
-    let c_back21 = c_back18.before.before.before in
-    let c_back24 = c_back21.before.before.before in
-    let c_back27 = c_back24.before.before.before in
+pub returns-clause-lines_as : goal.returns-clause-lines_as
+returns-clause-lines_as c =
+    let at = goal.at.returns-clause-lines_as c in
     record {
-      answer = rw (
-        acceptable_here c_back27.before.before,
-        sized c_back24.before.before.before,
-        c.if-setting-format.false,
-      );
+      answer = rw (accepted at.Else-not-is_acceptable, sized at.Else-not-is_sized, c.if-setting-format.false);
       taken =
           λ z. rw c.store.ensures
-          (rw (c.summary_of-summary.ensures.0, c.format_of.ensures) at c.take_rows_as-taken.ensures);
+          (rw (c.summary_of-summary.ensures.0, c.format_of.ensures) at c.take_rows_as-taken.ensures.heard);
       stays = λ n. absurd (n refl);
     }

@@ -1,24 +1,33 @@
--- The goals that a search does not find.
-use Prim.Native.Nat.{ℕ}
-use mathlib.Core.Path.{◌≡◌, sym, ap, ◌∙◌}
+-- `collector_state::acceptable::are_telegrams` meets its contract.
+use Rattle.std.proofs.Common.{◌≡◌, ◌<◌, ℕ, true, false, get_or, sym, ap, ◌∙◌}
 use native.Mathlib.Omega.{arith}
-use lib.ListN.{get_or}
+use Rattle.radio_erp1.specs.Subtelegram.{is_valid}
 use Rattle.collector_state.specs.Collector.{columns}
+use Rattle.collector_state.specs.Private.{marks, mark_of, shown_at}
 use Rattle.collector_state.proofs.Accepting.{telegrams_none, telegrams-more, telegrams-not, new-not-valid, new-repeated, new_both}
-use Rattle.collector_state.proofs.Marks.{marked_none, marked_more, valid-len, is_known, not_known, new-mark}
+use Rattle.collector_state.proofs.Marks.{marked_none, marked_more, mark-low, mark_valid, unmarked, valid-len, is_known, not_known, new-mark}
 use Rattle.collector_state.proofs.acceptable.are_telegrams.Goals as goal
+use Rattle.collector_state.proofs.acceptable.are_telegrams.Goals.{In-Some}
 
-pub returns-then-mark-ge-MARKS : goal.returns-then-mark-ge-MARKS
-returns-then-mark-ge-MARKS c copies =
+-- a mark is that of a valid telegram
+marked : (c : In-Some) → let s = shown_at c.args.lens.now c.args.bytes.now c.loop-i.i in
+    (is_valid s ≡ true) × (c.in-Some.mark ≡ mark_of s)
+marked c = mark_valid _ (sym c.in-Some.is ∙ c.mark_at.ensures)
+
+low : (c : In-Some) → c.in-Some.mark < marks
+low c = rw (marked c).1 (mark-low _)
+
+pub returns-in_default : goal.returns-in_default
+returns-in_default c copies =
     let i = c.loop-i.i in
     sym (telegrams-not (columns c.args.times.now c.args.lens.now c.args.bytes.now copies) i c.args.count (omega arith)
     (new-not-valid (columns c.args.times.now c.args.lens.now c.args.bytes.now copies) i
-    (c.mark_at-mark.ensures.invalid c.if-mark-ge-MARKS.true)))
+    (unmarked _ (sym c.in_default.is ∙ c.mark_at.ensures))))
 
 pub is_repeated-requires : goal.is_repeated-requires
 is_repeated-requires c =
-    let len = valid-len c.args.lens.now c.args.bytes.now c.loop-i.i
-    (c.mark_at-mark.ensures.valid c.if-mark-ge-MARKS.false) in
+    let m = marked (goal.at.is_repeated-requires c).In-Some in
+    let len = valid-len c.args.lens.now c.args.bytes.now c.loop-i.i m.0 in
     (omega arith, len.0, len.1)
 
 pub returns-then-is_repeated : goal.returns-then-is_repeated
@@ -31,22 +40,25 @@ returns-then-is_repeated c copies =
 pub loop-i-preserved : goal.loop-i-preserved
 loop-i-preserved c =
     let i = c.loop-i.i in
-    let mark = c.mark_at-mark.ensures.mark c.if-mark-ge-MARKS.false in
+    let m = marked (goal.at.loop-i-preserved c).In-Some in
     record {
       bounded = omega arith;
       passed = λ copies. telegrams-more (columns c.args.times.now c.args.lens.now c.args.bytes.now copies) i
           (c.loop-i.invariant.passed copies)
-          (new_both (columns c.args.times.now c.args.lens.now c.args.bytes.now copies) i
-          (c.mark_at-mark.ensures.valid c.if-mark-ge-MARKS.false)
+          (new_both (columns c.args.times.now c.args.lens.now c.args.bytes.now copies) i m.0
           (not_known (c.is_repeated.ensures copies) c.if-is_repeated.false
           (λ z. new-mark (columns c.args.times.now c.args.lens.now c.args.bytes.now copies) i c.loop-i.seen
-          c.loop-i.invariant.marked
-          (c.mark_at-mark.ensures.valid c.if-mark-ge-MARKS.false)
-          (ap (λ (n : ℕ). get_or c.loop-i.seen n 0) (sym mark) ∙ z))));
+          c.loop-i.invariant.marked m.0
+          (ap (λ (n : ℕ). get_or c.loop-i.seen n false) (sym m.1) ∙ z))));
       marked =
-          marked_more c.args.lens.now c.args.bytes.now i
-          c.loop-i.seen c.loop-i.invariant.marked _ mark c.if-mark-ge-MARKS.false;
+          marked_more c.args.lens.now c.args.bytes.now i c.loop-i.seen c.loop-i.invariant.marked _ m.1
+          (low (goal.at.loop-i-preserved c).In-Some);
     }
+
+pub bounds-seen-mark : goal.bounds-seen-mark
+bounds-seen-mark c =
+    let long = c.loop-i.invariant.marked.long in
+    omega (arith, low (goal.at.bounds-seen-mark c).In-Some)
 
 pub returns : goal.returns
 returns c copies =
@@ -61,17 +73,5 @@ loop-i-init c =
       marked = marked_none _ _ _ c.no_marks-seen.ensures;
     }
 
-pub mark_at-mark-requires : goal.mark_at-mark-requires
-mark_at-mark-requires c = omega arith
-
-pub bounds-seen-mark : goal.bounds-seen-mark
-bounds-seen-mark c = omega arith
-
 pub bounds-seen-mark-in-loop-i : goal.bounds-seen-mark-in-loop-i
-bounds-seen-mark-in-loop-i c = omega arith
-
-pub overflow_step-i : goal.overflow_step-i
-overflow_step-i c = omega arith
-
-pub loop-i-smaller : goal.loop-i-smaller
-loop-i-smaller c = omega arith
+bounds-seen-mark-in-loop-i c = low (goal.at.bounds-seen-mark-in-loop-i c).In-Some

@@ -6,7 +6,7 @@ use mathlib.Core.Bool.{Bool, false}
 use native.Mathlib.Omega.{arith}
 use Rattle.collector_model.specs.Acceptable.{is_copy_of}
 use Rattle.collector_state.specs.Collector.{columns, entry_at}
-use Rattle.collector_state.proofs.Arrays.{not_same, same_echo, echo_said, last_found, none_found}
+use Rattle.collector_state.proofs.Arrays.{not_same, same_echo, echo_said, copy_found, none_found}
 use Rattle.collector_state.proofs.entries.find.Goals as goal
 
 -- one more that fails a test
@@ -19,7 +19,7 @@ down p i count e later j h k = elim (dec_lt j i) [
 
 pub returns-then-is_echo : goal.returns-then-is_echo
 returns-then-is_echo c copies =
-    last_found (columns c.args.times.now c.args.lens.now c.args.bytes.now copies) c.args.gone c.args.count
+    copy_found (columns c.args.times.now c.args.lens.now c.args.bytes.now copies) c.args.gone c.args.count
     (record { bytes = c.args.received.now; time = c.args.time }) (c.loop-i.i - 1) (omega arith) (omega arith)
     (same_echo (columns c.args.times.now c.args.lens.now c.args.bytes.now copies) (c.loop-i.i - 1)
     (record { bytes = c.args.received.now; time = c.args.time }) (sym c.holds.ensures ∙ c.if-holds.true)
@@ -64,18 +64,3 @@ returns c copies =
 
 pub loop-i-init : goal.loop-i-init
 loop-i-init c = record { above = omega arith; bounded = omega arith; none = λ copies j h k. absurd (omega arith) }
-
-pub overflow_sub-i : goal.overflow_sub-i
-overflow_sub-i c = omega arith
-
-pub overflow_sub-result : goal.overflow_sub-result
-overflow_sub-result c = omega arith
-
-pub loop-i-smaller-else-is_echo : goal.loop-i-smaller-else-is_echo
-loop-i-smaller-else-is_echo c = omega arith
-
-pub loop-i-smaller : goal.loop-i-smaller
-loop-i-smaller c = omega arith
-
-pub overflow_sub-result-2 : goal.overflow_sub-result-2
-overflow_sub-result-2 c = omega arith

@@ -14,15 +14,15 @@ returns-then-bytes-at c =
     sym (other_byte a.lens.now a.bytes.now a.i a.received.now (omega arith)
     (omega arith) (length a.received.now - 3) (omega arith) c.if-bytes-at.true)
 
-pub returns-then-usize_of_byte-len : goal.returns-then-usize_of_byte-len
-returns-then-usize_of_byte-len c =
+pub returns-then-from-len : goal.returns-then-from-len
+returns-then-from-len c =
     let a = c.args in
     sym (longer_not_same a.lens.now a.bytes.now a.i
-    a.received.now (λ e. c.if-usize_of_byte-len.true (c.usize_of_byte.ensures.0 ∙ e)))
+    a.received.now (λ e. c.if-from-len.true (c.from.ensures ∙ e)))
 
 pub returns : goal.returns
 returns c =
     let a = c.args in
     c.same.ensures
     ∙ sym (same_said a.lens.now a.bytes.now a.i a.received.now _ c.telegram-telegram.ensures
-    (sym c.usize_of_byte.ensures.0 ∙ c.if-usize_of_byte-len.false))
+    (sym c.from.ensures ∙ c.if-from-len.false))

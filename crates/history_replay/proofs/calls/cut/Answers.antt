@@ -6,7 +6,7 @@ use native.Mathlib.Omega.{arith}
 use lib.ListN.{length, length-replicate}
 use Rattle.base_buffers.specs.Buffer.{part}
 use Rattle.base_buffers.proofs.Segments.{Writing, packed, begin, begun_length, lend, lent, within, done, part_length}
-use Rattle.c_collector.specs.State.{Arrays, arrays, state_at}
+use Rattle.c_collector.specs.State.{Arrays, arrays_in, state_at}
 use Rattle.history_replay_model.specs.Operation.{restoring}
 use Rattle.history_replay_model.specs.Record.{head_of, seen_bytes}
 use Rattle.history_replay.specs.Calls.{output_in}
@@ -20,22 +20,22 @@ use Rattle.history_replay.proofs.calls.cut.Goals as goal
 
 -- states on the way
 abbrev Start : Type 0
-Start = lts.Start tie.the-claims reads.Pre reads.Post
+Start = lts.Start tie.the-claims reads.Pre reads.Post tie.handed_clauses
 
 abbrev After-output_length-n : Type 0
-After-output_length-n = lts.After-output_length tie.the-claims reads.Pre reads.Post
+After-output_length-n = lts.After-output_length tie.the-claims reads.Pre reads.Post tie.handed_clauses
 
 abbrev After-put_wrote : Type 0
-After-put_wrote = lts.After-put_wrote tie.the-claims reads.Pre reads.Post
+After-put_wrote = lts.After-put_wrote tie.the-claims reads.Pre reads.Post tie.handed_clauses
 
 abbrev After-put_head : Type 0
-After-put_head = lts.After-put_head tie.the-claims reads.Pre reads.Post
+After-put_head = lts.After-put_head tie.the-claims reads.Pre reads.Post tie.handed_clauses
 
 -- what is lent
 abbrev lent-arrays : Start → Arrays
 lent-arrays s =
     let a = s.args in
-    arrays a.times.now a.lengths.now a.bytes.now a.copies.now a.numbers.now
+    arrays_in a.state.now
 
 -- ---- lengths
 
@@ -62,9 +62,10 @@ first_room c =
 abbrev first : (c : After-put_wrote) → Writing (end c.before.before.before)
 first c =
     let c_back3 = c.before.before.before in
+    let c_back6 = c_back3.before.before.before in
     let out = c.args.out.now in
     let h = room c.before.before.before in
-    let v = state_at (lent-arrays c_back3.before.before.before) in
+    let v = state_at (lent-arrays c_back6) in
     packed
     (lend (begin out) _ (seen_bytes (wrote_of v (output c.before.before.before))) (end c.before.before.before)
     (c.put_wrote.ensures
@@ -78,41 +79,32 @@ abbrev both : (c : After-put_head) → (
     let c_back6 = c_back3.before.before.before in
     let c_back9 = c_back6.before.before.before in
     let c_back12 = c_back9.before.before.before in
-    let c_back15 = c_back12.before.before.before in
-    let c_back18 = c_back15.before.before.before in
-    let c_back21 = c_back18.before.before.before in
-    Writing (end c_back21.before + 50))
+    Writing (end c_back12.before.before + 50))
 both c =
     let c_back3 = c.before.before.before in
     let c_back6 = c_back3.before.before.before in
     let c_back9 = c_back6.before.before.before in
     let c_back12 = c_back9.before.before.before in
-    let c_back15 = c_back12.before.before.before in
-    let c_back18 = c_back15.before.before.before in
-    let c_back21 = c_back18.before.before.before in
-    let h = room c_back21.before in
+    let h = room c_back12.before.before in
     packed
-    (lend (first c_back18.before).begun _ (head_of restoring c.restore-number.result c.totals_of-totals.result)
-    (end c_back21.before + 50) c.put_head.ensures
+    (lend (first c_back9.before.before).begun _ (head_of restoring c.restore-number.result c.totals_of-totals.result)
+    (end c_back12.before.before + 50) c.put_head.ensures
     c.put_head.auto.out (omega arith) (omega arith))
 
-pub returns : goal.returns
-returns c =
+pub returns-clause-called : goal.returns-clause-called
+returns-clause-called c =
     let c_back3 = c.before.before.before in
     let c_back6 = c_back3.before.before.before in
     let c_back9 = c_back6.before.before.before in
     let c_back12 = c_back9.before.before.before in
     let c_back15 = c_back12.before.before.before in
     let c_back18 = c_back15.before.before.before in
-    let c_back21 = c_back18.before.before.before in
-    let c_back24 = c_back21.before.before.before in
-    let c_back27 = c_back24.before.before.before in
-    resumed c.totals_of-totals.ensures (output c_back24.before) _ refl c.fresh.ensures
-    (restored_as (image_lent (state_at (lent-arrays c_back27.before))
-    (output c_back24.before) _ _ c.least-last.result (first c_back21.before).begun.is
-    (c.least-last.ensures ∙ omega (arith, output-length c_back24.before)))
-    c.restore-number.ensures)
-    (done (both c.before.before.before).begun (room c_back24.before))
+    resumed c.totals_of-totals.ensures (output c_back15.before.before) _ refl c.clear.ensures.fresh
+    (restored_as (image_lent (state_at (lent-arrays c_back18.before.before))
+    (output c_back15.before.before) _ _ c.min-last.result (first c_back12.before.before).begun.is
+    (c.min-last.ensures ∙ omega (arith, output-length c_back15.before.before)))
+    c.restore-number.ensures.restores)
+    (done (both c.before.before.before).begun (room c_back15.before.before))
 
 pub overflow_add-end : goal.overflow_add-end
 overflow_add-end c = omega (arith, c.output_length-n.ensures.1)
@@ -124,18 +116,16 @@ pub put_wrote-requires : goal.put_wrote-requires
 put_wrote-requires c = omega (arith, first_room c.before.before.before)
 
 pub overflow_add-last : goal.overflow_add-last
-overflow_add-last c = omega (arith, c.least-last.ensures)
+overflow_add-last c = omega (arith, c.min-last.ensures)
 
 pub slice_bounds-restore-end : goal.slice_bounds-restore-end
 slice_bounds-restore-end c =
     let c_back3 = c.before.before.before in
     let c_back6 = c_back3.before.before.before in
     let c_back9 = c_back6.before.before.before in
-    let c_back12 = c_back9.before.before.before in
-    let c_back15 = c_back12.before.before.before in
     within (first
-    c_back12.before.before.before).begun _
-    (omega (arith, room c_back15.before.before.before, c.least-last.ensures))
+    c_back6.before).begun _
+    (omega (arith, room c_back9.before, c.min-last.ensures))
 
 pub overflow_add-end-2 : goal.overflow_add-end-2
 overflow_add-end-2 c = omega (arith, c.output_length-n.ensures.1)
@@ -146,10 +136,8 @@ slice_bounds-put_head-end c =
     let c_back6 = c_back3.before.before.before in
     let c_back9 = c_back6.before.before.before in
     let c_back12 = c_back9.before.before.before in
-    let c_back15 = c_back12.before.before.before in
-    let c_back18 = c_back15.before.before.before in
-    within (first c_back15.before.before.before).begun _
-    (omega (arith, room c_back18.before.before.before))
+    within (first c_back9.before).begun _
+    (omega (arith, room c_back12.before))
 
 pub put_head-requires : goal.put_head-requires
 put_head-requires c =
@@ -157,11 +145,8 @@ put_head-requires c =
     let c_back6 = c_back3.before.before.before in
     let c_back9 = c_back6.before.before.before in
     let c_back12 = c_back9.before.before.before in
-    let c_back15 = c_back12.before.before.before in
-    let c_back18 = c_back15.before.before.before in
-    let c_back21 = c_back18.before.before.before in
-    lent (first c_back18.before).begun 50 _ refl
-    (omega (arith, room c_back21.before))
+    lent (first c_back9.before.before).begun 50 _ refl
+    (omega (arith, room c_back12.before.before))
 
 pub shape_of-out : goal.shape_of-out
 shape_of-out c = begun_length (both c.before.before.before).begun

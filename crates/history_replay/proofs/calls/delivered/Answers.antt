@@ -21,19 +21,19 @@ use Rattle.history_replay.proofs.calls.delivered.Goals as goal
 
 -- states on the way
 abbrev After-place_count-m : Type 0
-After-place_count-m = lts.After-place_count tie.the-claims reads.Pre reads.Post
+After-place_count-m = lts.After-place_count tie.the-claims reads.Pre reads.Post tie.handed_clauses
 
 abbrev After-places_in-places : Type 0
-After-places_in-places = lts.After-places_in tie.the-claims reads.Pre reads.Post
+After-places_in-places = lts.After-places_in tie.the-claims reads.Pre reads.Post tie.handed_clauses
 
 abbrev After-burst_in-number : Type 0
-After-burst_in-number = lts.After-burst_in tie.the-claims reads.Pre reads.Post
+After-burst_in-number = lts.After-burst_in tie.the-claims reads.Pre reads.Post tie.handed_clauses
 
 abbrev After-put_body : Type 0
-After-put_body = lts.After-put_body tie.the-claims reads.Pre reads.Post
+After-put_body = lts.After-put_body tie.the-claims reads.Pre reads.Post tie.handed_clauses
 
 abbrev After-put_places : Type 0
-After-put_places = lts.After-put_places tie.the-claims reads.Pre reads.Post
+After-put_places = lts.After-put_places tie.the-claims reads.Pre reads.Post tie.handed_clauses
 
 -- ---- lengths
 
@@ -60,14 +60,12 @@ new c = c.burst_in-number.new.places
 
 new-length : (c : After-burst_in-number) → (
     let c_back3 = c.before.before.before in
-    let c_back6 = c_back3.before.before.before in
     length (new c)
-    ≡ 24 * m c_back6.before.before.before)
+    ≡ 24 * m c_back3.before.before)
 new-length c =
     let c_back3 = c.before.before.before in
-    let c_back6 = c_back3.before.before.before in
-    front_length (24 * m c_back6.before.before.before) c.places_in-places.result
-    (new c) (in_places c_back6.before.before) c.burst_in-number.auto.places
+    front_length (24 * m c_back3.before.before) c.places_in-places.result
+    (new c) (in_places c_back3.before) c.burst_in-number.auto.places
 
 -- ---- what is written
 
@@ -76,11 +74,10 @@ step1 c =
     let c_back3 = c.before.before.before in
     let c_back6 = c_back3.before.before.before in
     let c_back9 = c_back6.before.before.before in
-    let c_back12 = c_back9.before.before.before in
-    let h = room c_back12.before in
+    let h = room c_back9 in
     packed
     (lend (begin c.args.out.now) _
-    (head_of delivering c.burst_in-number.result c.totals_of-totals.result ++ be 8 (m c_back12.before)) 58
+    (head_of delivering c.burst_in-number.result c.totals_of-totals.result ++ be 8 (m c_back9)) 58
     c.put_body.ensures
     c.put_body.auto.out (omega arith) (omega arith))
 
@@ -89,17 +86,15 @@ abbrev step2 : (c : After-put_places) → (
     let c_back6 = c_back3.before.before.before in
     let c_back9 = c_back6.before.before.before in
     let c_back12 = c_back9.before.before.before in
-    let c_back15 = c_back12.before.before.before in
-    Writing (58 + 31 * m c_back15.before.before.before))
+    Writing (58 + 31 * m c_back12.before.before))
 step2 c =
     let c_back3 = c.before.before.before in
     let c_back6 = c_back3.before.before.before in
     let c_back9 = c_back6.before.before.before in
     let c_back12 = c_back9.before.before.before in
-    let c_back15 = c_back12.before.before.before in
-    let h = room c_back15.before.before.before in
+    let h = room c_back12.before.before in
     packed
-    (lend (step1 c_back3.before.before).begun _ _ (58 + 31 * m c_back15.before.before.before) c.put_places.ensures
+    (lend (step1 c_back3.before.before).begun _ _ (58 + 31 * m c_back12.before.before) c.put_places.ensures
     c.put_places.auto.out (omega arith) (omega arith))
 
 -- the places that are lent again
@@ -107,21 +102,19 @@ all_back : (c : After-put_body) → (
     let c_back3 = c.before.before.before in
     let c_back6 = c_back3.before.before.before in
     let c_back9 = c_back6.before.before.before in
-    let c_back12 = c_back9.before.before.before in
-    24 * m c_back12.before
-    ≤ length (come_back (24 * m c_back12.before)
+    24 * m c_back9
+    ≤ length (come_back (24 * m c_back9)
     c.places_in-places.result (new c_back3.before)))
 all_back c =
     let c_back3 = c.before.before.before in
     let c_back6 = c_back3.before.before.before in
     let c_back9 = c_back6.before.before.before in
-    let c_back12 = c_back9.before.before.before in
     let kept = c.burst_in-number.auto.places in
     omega (
       arith,
-      come_back-length (24 * m c_back12.before) c.places_in-places.result (new c_back3.before)
-          (in_places c_back9.before.before.before) kept,
-      in_places c_back9.before.before.before,
+      come_back-length (24 * m c_back9) c.places_in-places.result (new c_back3.before)
+          (in_places c_back6.before.before) kept,
+      in_places c_back6.before.before,
     )
 
 places_back : (c : After-put_body)
@@ -129,20 +122,18 @@ places_back : (c : After-put_body)
     let c_back3 = c.before.before.before in
     let c_back6 = c_back3.before.before.before in
     let c_back9 = c_back6.before.before.before in
-    let c_back12 = c_back9.before.before.before in
-    length (part 0 (24 * m c_back12.before - 0)
-    (come_back (24 * m c_back12.before)
+    length (part 0 (24 * m c_back9 - 0)
+    (come_back (24 * m c_back9)
     c.places_in-places.result
     (new c_back3.before)))
-    ≡ 24 * m c_back12.before)
+    ≡ 24 * m c_back9)
 places_back c =
     let c_back3 = c.before.before.before in
     let c_back6 = c_back3.before.before.before in
     let c_back9 = c_back6.before.before.before in
-    let c_back12 = c_back9.before.before.before in
     ap length
-    (come_back_front (24 * m c_back12.before) c.places_in-places.result
-    (new c_back3.before) (in_places c_back9.before.before.before) c.burst_in-number.auto.places)
+    (come_back_front (24 * m c_back9) c.places_in-places.result
+    (new c_back3.before) (in_places c_back6.before.before) c.burst_in-number.auto.places)
     ∙ new-length c_back3.before
 
 pub put_places-requires : goal.put_places-requires
@@ -150,37 +141,35 @@ put_places-requires c =
     let c_back3 = c.before.before.before in
     let c_back6 = c_back3.before.before.before in
     let c_back9 = c_back6.before.before.before in
-    let c_back12 = c_back9.before.before.before in
-    let c_back15 = c_back12.before.before.before in (
+    let c_back12 = c_back9.before.before.before in (
       places_back c_back3.before.before,
       lent (step1 c_back3.before.before).begun
-          (31 * m c_back15.before.before.before) _ refl (omega (arith, room c_back15.before.before.before)),
+          (31 * m c_back12.before.before) _ refl (omega (arith, room c_back12.before.before)),
     )
 
-pub returns : goal.returns
-returns c =
+pub returns-clause-called : goal.returns-clause-called
+returns-clause-called c =
     let c_back3 = c.before.before.before in
     let c_back6 = c_back3.before.before.before in
     let c_back9 = c_back6.before.before.before in
     let c_back12 = c_back9.before.before.before in
     let c_back15 = c_back12.before.before.before in
-    let c_back18 = c_back15.before.before.before in
     let r = c.args.r.now in
     delivered c.totals_of-totals.ensures (call_setting r)
-    (burst_receptions_in (lent_in c.args.lent.now r)) _ (new c_back9.before.before.before) (places_in r)
-    (m c_back18.before.before.before)
-    (made_as (ap burst_receptions_in c.lent_in.ensures) c.burst_in-number.ensures)
-    (ap replies_in_places (front (24 * m c_back18.before.before.before) c.places_in-places.result
+    (burst_receptions_in (lent_in c.args.lent.now r)) _ (new c_back12) (places_in r)
+    (m c_back15.before.before)
+    (made_as (ap burst_receptions_in c.lent_in.ensures) c.burst_in-number.ensures.made)
+    (ap replies_in_places (front (24 * m c_back15.before.before) c.places_in-places.result
     ∙ c.places_in-places.ensures)
-    ∙ places_lent r (m c_back18.before.before.before) c.requires.0
+    ∙ places_lent r (m c_back15.before.before) c.requires.0
     ∙ ap (λ n. replicate n (place_in r)) c.place_count-m.ensures.0)
-    (count (new c_back9.before.before.before) (m c_back18.before.before.before)
-    (new-length c_back9.before.before.before))
-    (done (step2 c.before.before.before).begun (room c_back18.before.before.before)
+    (count (new c_back12) (m c_back15.before.before)
+    (new-length c_back12))
+    (done (step2 c.before.before.before).begun (room c_back15.before.before)
     ∙ ap (λ (l : List ℕ). head_of delivering c.burst_in-number.result c.totals_of-totals.result
-    ++ be 8 (m c_back18.before.before.before) ++ flatten (map reply_of (replies_in_places l)))
-    (come_back_front (24 * m c_back18.before.before.before) c.places_in-places.result (new c_back9.before.before.before)
-    (in_places c_back18.before.before) c.burst_in-number.auto.places))
+    ++ be 8 (m c_back15.before.before) ++ flatten (map reply_of (replies_in_places l)))
+    (come_back_front (24 * m c_back15.before.before) c.places_in-places.result (new c_back12)
+    (in_places c_back15.before) c.burst_in-number.auto.places))
 
 pub places_in-places-requires : goal.places_in-places-requires
 places_in-places-requires c = (search rules, c.place_count-m.ensures.1)
@@ -191,8 +180,7 @@ overflow_mul-m-2 c =
     let c_back6 = c_back3.before.before.before in
     let c_back9 = c_back6.before.before.before in
     let c_back12 = c_back9.before.before.before in
-    let c_back15 = c_back12.before.before.before in
-    omega (arith, many c_back15.before)
+    omega (arith, many c_back12)
 
 pub overflow_add-m : goal.overflow_add-m
 overflow_add-m c =
@@ -200,8 +188,7 @@ overflow_add-m c =
     let c_back6 = c_back3.before.before.before in
     let c_back9 = c_back6.before.before.before in
     let c_back12 = c_back9.before.before.before in
-    let c_back15 = c_back12.before.before.before in
-    omega (arith, many c_back15.before)
+    omega (arith, many c_back12)
 
 pub slice_bounds-put_places-end : goal.slice_bounds-put_places-end
 slice_bounds-put_places-end c =
@@ -209,11 +196,10 @@ slice_bounds-put_places-end c =
     let c_back6 = c_back3.before.before.before in
     let c_back9 = c_back6.before.before.before in
     let c_back12 = c_back9.before.before.before in
-    let c_back15 = c_back12.before.before.before in
     within (step1 c.before.before.before).begun _ (omega (
       arith,
       room
-          c_back15.before,
+          c_back12,
     ))
 
 pub overflow_mul-m-3 : goal.overflow_mul-m-3
@@ -222,8 +208,7 @@ overflow_mul-m-3 c =
     let c_back6 = c_back3.before.before.before in
     let c_back9 = c_back6.before.before.before in
     let c_back12 = c_back9.before.before.before in
-    let c_back15 = c_back12.before.before.before in
-    omega (arith, many c_back15.before.before)
+    omega (arith, many c_back12.before)
 
 pub slice_bounds-put_places-end-2 : goal.slice_bounds-put_places-end-2
 slice_bounds-put_places-end-2 c =

@@ -4,24 +4,18 @@ use mathlib.Core.List.{◌++◌}
 use native.Mathlib.Omega.{arith}
 use Rattle.block_layout.specs.BigEndian.{be}
 use Rattle.base_buffers.proofs.Segments.{begin, lend}
-use Rattle.c_collector.specs.State.{Arrays, arrays, state_at}
+use Rattle.c_collector.specs.State.{Arrays, arrays_in, state_at}
 use Rattle.history_replay_model.specs.Operation.{saving}
 use Rattle.history_replay_model.specs.Record.{head_of}
 use Rattle.history_replay.proofs.Making.{saved-output, output-length, rest}
-use Rattle.history_replay.proofs.calls.put_wrote.Lts as lts
-use Rattle.history_replay.proofs.calls.put_wrote.Reads as reads
-use Rattle.history_replay.proofs.calls.put_wrote.Tie as tie
+use Rattle.history_replay.proofs.calls.put_wrote.Goals.{Start}
 use Rattle.history_replay.proofs.calls.put_wrote.Goals as goal
-
--- states on the way
-abbrev Start : Type 0
-Start = lts.Start tie.the-claims reads.Pre reads.Post
 
 -- what is lent
 abbrev lent : Start → Arrays
 lent s =
     let a = s.args in
-    arrays a.times.now a.lengths.now a.bytes.now a.copies.now a.numbers.now
+    arrays_in a.state.now
 
 pub returns : goal.returns
 returns c =

@@ -16,32 +16,31 @@ use Rattle.history_replay.proofs.calls.received.Tie as tie
 use Rattle.history_replay.proofs.calls.received.Goals as goal
 
 -- states on the way
-abbrev After-least-n : Type 0
-After-least-n = lts.After-least tie.the-claims reads.Pre reads.Post
+abbrev After-min-n : Type 0
+After-min-n = lts.After-min tie.the-claims reads.Pre reads.Post tie.handed_clauses
 
 -- the bytes that are lent are those that the record says
-lent-bytes : (c : After-least-n)
-    → part 10 (10 + c.least-n.result - 10) c.args.r.now ≡ (call_reception c.args.r.now).bytes
+lent-bytes : (c : After-min-n)
+    → part 10 (10 + c.min-n.result - 10) c.args.r.now ≡ (call_reception c.args.r.now).bytes
 lent-bytes c =
-    bytes-lent c.args.r.now _ c.least-n.result
-    (c.least-n.ensures ∙ ap₂ min c.usize_of_byte.ensures.0 refl)
+    bytes-lent c.args.r.now _ c.min-n.result
+    (c.min-n.ensures ∙ ap₂ min c.usize_of_byte.ensures.0 refl)
 
 pub put_answered-requires : goal.put_answered-requires
 put_answered-requires c = c.requires.1
 
-pub returns : goal.returns
-returns c =
+pub returns-clause-called : goal.returns-clause-called
+returns-clause-called c =
     let c_back3 = c.before.before.before in
     let c_back6 = c_back3.before.before.before in
     let c_back9 = c_back6.before.before.before in
     let c_back12 = c_back9.before.before.before in
-    let c_back15 = c_back12.before.before.before in
     let r = c.args.r.now in
     received c.totals_of-totals.ensures (call_setting r)
-    (heard_as (λ i. record { bytes = lent-bytes c_back15.before.before i; time = c.number_at-time.ensures i })
-    c.take-answer.ensures)
+    (heard_as (λ i. record { bytes = lent-bytes c_back12.before i; time = c.number_at-time.ensures i })
+    c.take-answer.ensures.takes)
     _ _ _
     (c.sent_for-sent.ensures
     ∙ λ i. cond (eqb c.take-answer.result 0)
-    (repeat_result (call_setting r) (lent-bytes c_back15.before.before i)).sent (frame_of []))
+    (repeat_result (call_setting r) (lent-bytes c_back12.before i)).sent (frame_of []))
     c.form_with-form.ensures refl c.put_answered.ensures

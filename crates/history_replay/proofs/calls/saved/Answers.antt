@@ -1,26 +1,20 @@
 -- `history_replay::calls::saved` meets its contract: by what `checkpoint` ensures.
 use mathlib.Core.Path.{ap, ◌∙◌}
 use mathlib.Core.List.{List}
-use Rattle.c_collector.specs.State.{Arrays, arrays, state_at}
+use Rattle.c_collector.specs.State.{Arrays, arrays_in, state_at}
 use Rattle.history_replay_model.specs.Record.{seen_bytes}
 use Rattle.history_replay.specs.Calls.{output_in}
 use Rattle.history_replay.specs.Private.{wrote_of}
 use Rattle.history_replay.proofs.Making.{output_is}
 use Rattle.history_replay.proofs.Called.{saved}
-use Rattle.history_replay.proofs.calls.saved.Lts as lts
-use Rattle.history_replay.proofs.calls.saved.Reads as reads
-use Rattle.history_replay.proofs.calls.saved.Tie as tie
+use Rattle.history_replay.proofs.calls.saved.Goals.{Start}
 use Rattle.history_replay.proofs.calls.saved.Goals as goal
-
--- states on the way
-abbrev Start : Type 0
-Start = lts.Start tie.the-claims reads.Pre reads.Post
 
 -- what is lent
 abbrev lent : Start → Arrays
 lent s =
     let a = s.args in
-    arrays a.times.now a.lengths.now a.bytes.now a.copies.now a.numbers.now
+    arrays_in a.state.now
 
 pub returns : goal.returns
 returns c =

@@ -5,4 +5,4 @@ use Rattle.history_replay.proofs.reading.window.Goals as goal
 pub returns : goal.returns
 returns c =
     let a = c.args in
-    window_is a.s.now a.a a.n _ _ c.least-start.ensures c.least-end.ensures
+    window_is a.s.now a.a a.n _ _ c.min-start.ensures c.min-end.ensures

@@ -17,12 +17,12 @@ pub returns : goal.returns
 returns c =
     let a = c.args in
     let r = a.r.now in
-    let n : min c.least-n.result listed ≡ c.least-n.result = omega (arith, c.least-n.ensures) in
+    let n : min c.min-n.result listed ≡ c.min-n.result = omega (arith, c.min-n.ensures) in
     let m : min a.m listed ≡ a.m = omega (arith, c.requires.1) in
     let is = rw (n, m) at c.burst_within.ensures.front in
     let rs =
-    receptions_are a.bytes.now _ c.least-n.result
-    c.least-n.ensures c.receptions_in-records.ensures in
+    receptions_are a.bytes.now _ c.min-n.result
+    c.min-n.ensures c.receptions_in-records.ensures in
     let ps = places_are r _ _ a.m c.requires.1 c.places-places.ensures c.place_in.ensures in
     record {
       result = is.result ∙ λ i. burst_of (call_setting r) (view_of a.c) (rs i) (ps i);
@@ -30,4 +30,4 @@ returns c =
     }
 
 pub receptions_in-records-requires : goal.receptions_in-records-requires
-receptions_in-records-requires c = (omega (arith, c.least-n.ensures), omega (arith, c.least-n.ensures))
+receptions_in-records-requires c = (omega (arith, c.min-n.ensures), omega (arith, c.min-n.ensures))

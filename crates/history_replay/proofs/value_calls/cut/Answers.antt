@@ -7,15 +7,14 @@ use lib.ListN.{length, take, length-replicate}
 use Rattle.base_buffers.specs.Buffer.{part}
 use Rattle.base_buffers.proofs.Segments.{Writing, packed, begin, lend, lent, within, done, part_length}
 use Rattle.collector_model.specs.Image.{image_length, checkpoint_of}
-use Rattle.collector_state.specs.Collector.{view_of}
-use Rattle.base_refusal.specs.Number.{outcome_number}
+use Rattle.collector_state.specs.Collector.{view_of, next_number, next_in}
 use Rattle.collector_checkpoint.specs.Checkpoint.{Restores}
 use Rattle.history_replay_model.specs.Operation.{restoring}
 use Rattle.history_replay_model.specs.Record.{head_of, seen_bytes}
 use Rattle.history_replay.specs.Calls.{output_in}
 use Rattle.history_replay.specs.Private.{wrote_of}
 use Rattle.history_replay.proofs.Making.{output_is, image_lent}
-use Rattle.history_replay.proofs.Called.{restored_as_value, resumed-value}
+use Rattle.history_replay.proofs.Called.{at-next, restored_as_value, resumed-value}
 use Rattle.history_replay.proofs.value_calls.cut.Lts as lts
 use Rattle.history_replay.proofs.value_calls.cut.Reads as reads
 use Rattle.history_replay.proofs.value_calls.cut.Tie as tie
@@ -67,7 +66,7 @@ first c =
 restored : (c : After-restore-restored) → (
     let c_back3 = c.before.before.before in
     let c_back6 = c_back3.before.before.before in
-    Restores c.fresh.result
+    Restores c.fresh-fresh.result
     (take image_length (checkpoint_of (view_of c.args.c)
     (output c_back6.before.before.before)).output)
     c.restore-restored.result)
@@ -76,8 +75,8 @@ restored c =
     let c_back6 = c_back3.before.before.before in
     restored_as_value
     (image_lent (view_of c.args.c) (output c_back6.before.before.before) _ _
-    c.least-last.result
-    (first c_back3.before.before.before).begun.is (c.least-last.ensures
+    c.min-last.result
+    (first c_back3.before.before.before).begun.is (c.min-last.ensures
     ∙ omega (arith, output-length c_back6.before.before.before)))
     c.restore-restored.ensures
 
@@ -89,13 +88,17 @@ returns c =
     let c_back12 = c_back9.before.before.before in
     let c_back15 = c_back12.before.before.before in
     let h = room c_back15.before.before in
-    let totals = c.restore-restored.result.next.summary.totals in
+    let q = c.restore-restored.result in
+    let d = c.fresh-fresh.result in
     let both =
     lend (first c_back12.before.before).begun _
-    (head_of restoring (outcome_number c.restore-restored.result.answer) totals) (end c_back15.before.before + 50)
-    (c.put_head.ensures ∙ λ i. head_of restoring (c.outcome_number-number.ensures i) totals)
+    (head_of restoring (next_number q) (next_in d q).summary.totals) (end c_back15.before.before + 50)
+    (c.put_head.ensures
+    ∙ λ i. head_of restoring (c.next_number-number.ensures i) (c.next_in-next.ensures i).summary.totals)
     c.put_head.auto.out (omega arith) (omega arith) in
-    resumed-value (output c_back15.before.before) _ refl c.fresh.ensures (restored c_back6.before.before) (done both h)
+    at-next c.next_in-next.ensures
+    (resumed-value (output c_back15.before.before) _ refl c.fresh-fresh.ensures (restored c_back6.before.before)
+    (done both h))
 
 pub overflow_add-end : goal.overflow_add-end
 overflow_add-end c = omega (arith, c.output_length-n.ensures.1)
@@ -120,7 +123,7 @@ slice_bounds-restore-end c =
     let c_back3 = c.before.before.before in
     let c_back6 = c_back3.before.before.before in
     within (first c_back3.before.before).begun _
-    (omega (arith, room c_back6.before.before, c.least-last.ensures))
+    (omega (arith, room c_back6.before.before, c.min-last.ensures))
 
 pub overflow_add-end-2 : goal.overflow_add-end-2
 overflow_add-end-2 c = omega (arith, c.output_length-n.ensures.1)

@@ -26,9 +26,9 @@ After-sent_for-sent = lts.After-sent_for tie.the-claims reads.Pre reads.Post
 
 -- the bytes that are lent are those that the record says
 lent-bytes : (c : After-take-taken)
-    → part 10 (10 + c.least-n.result - 10) c.args.r.now
+    → part 10 (10 + c.min-n.result - 10) c.args.r.now
     ≡ (call_reception c.args.r.now).bytes
-lent-bytes c = bytes-lent c.args.r.now _ c.least-n.result (c.least-n.ensures
+lent-bytes c = bytes-lent c.args.r.now _ c.min-n.result (c.min-n.ensures
     ∙ ap₂ min c.usize_of_byte.ensures.0 refl)
 
 -- what `take` ensures, of the reception that the record says

@@ -1,14 +1,12 @@
 -- `history_replay::value_calls::sent_for` meets its contract: only KEPT is ever repeated.
-use mathlib.Core.Path.{ap, ◌∙◌}
-use Rattle.radio_telegram.specs.Repeater.{RepeatResult}
+use mathlib.Core.Path.{◌∙◌}
 use Rattle.radio_telegram.proofs.Laws.{repeat_sent}
 use Rattle.history_replay.proofs.value_calls.sent_for.Goals as goal
 
 pub returns-in-Kept : goal.returns-in-Kept
 returns-in-Kept c =
     let a = c.args in
-    rw c.in-Kept.is
-    (ap (λ (q : RepeatResult). q.sent) c.repeat-repeated.ensures ∙ repeat_sent a.setting a.bytes.now)
+    rw c.in-Kept.is (c.repeated.ensures ∙ repeat_sent a.setting a.bytes.now)
 
 pub returns-in-Copy : goal.returns-in-Copy
 returns-in-Copy c = rw c.in-Copy.is c.empty.ensures

@@ -58,7 +58,7 @@ loop-i-init c =
     let c_back3 = c.before.before.before in
     record {
       bounded = omega arith;
-      least = c.least-most.ensures ∙ ap₂ min (sym (new-count c_back3.before.before.before))
+      least = c.min-most.ensures ∙ ap₂ min (sym (new-count c_back3.before.before.before))
           (sym (left-count c_back3.before.before.before));
       rest = zero-add (agreeing (new c_back3.before.before.before)
           (left c_back3.before.before.before));
@@ -131,7 +131,7 @@ returns c =
     let c_back6 = c_back3.before.before.before in
     let v = c.loop-i.invariant in
     let i = c.loop-i.i in
-    let most : c.least-most.result ≡ i = omega arith in
+    let most : c.min-most.result ≡ i = omega arith in
     let none = agree_end (new c_back6.before.before)
     (left c_back6.before.before) i (omega (arith, v.least)) in (
       omega (arith, v.rest, none),

@@ -67,5 +67,5 @@ returns c =
     let c_back9 = c_back6.before.before.before in
     let c_back12 = c_back9.before.before.before in
     let k = said c_back12.before.before.before in
-    ap (λ (n : ℕ). eqb (logged k) 1 && eqb (tail_length k) n) c.least.ensures
+    ap (λ (n : ℕ). eqb (logged k) 1 && eqb (tail_length k) n) c.min.ensures
     ∙ tail_some k c.if-numbers.false (sym (told c_back6.before.before) ∙ c.if-not-is_blank.false) c.if-numbers-eq0.false

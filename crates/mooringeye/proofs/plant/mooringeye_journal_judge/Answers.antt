@@ -4,4 +4,4 @@ use Rattle.journal_calls.specs.Block.{judgement_number}
 use Rattle.mooringeye.proofs.plant.mooringeye_journal_judge.Goals as goal
 
 pub returns : goal.returns
-returns c = c.number.ensures ∙ ap judgement_number c.judge.ensures
+returns c = c.into.ensures ∙ ap judgement_number c.judge.ensures

@@ -1,5 +1,4 @@
 -- `radio_erp1::status::join` meets its contract, a case for each selector.
-use Rattle.std.proofs.Common.{rules}
 use Rattle.radio_erp1.proofs.status.join.Goals as goal
 
 pub returns-then-s : goal.returns-then-s

@@ -1,6 +1,5 @@
 -- `radio_telegram::fields::addressed_fields` meets its contract.
 use native.Mathlib.Omega.{arith}
-use borrow.Author.Rules.{rules}
 use Rattle.radio_erp1.proofs.Checks.{status_at}
 use Rattle.radio_telegram.proofs.fields.addressed_fields.Goals as goal
 

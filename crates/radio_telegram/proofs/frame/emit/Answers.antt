@@ -6,13 +6,8 @@ use lib.ListN.{length, length-take}
 use Rattle.radio_telegram.proofs.Frames.{frame-len, frame-take, put-short, put_all}
 use Rattle.radio_telegram.proofs.frame.emit.Goals as goal
 
-pub returns-then-out-n : goal.returns-then-out-n
-returns-then-out-n c xs e = put-short xs _ (omega (arith, frame-len _ xs e)) (omega (arith, frame-len _ xs e))
-
-pub slice_bounds-bytes-end : goal.slice_bounds-bytes-end
-slice_bounds-bytes-end c =
-    let h : length c.args.f.bytes ≡ 21 = search rules in
-    omega arith
+pub returns-then-out-f : goal.returns-then-out-f
+returns-then-out-f c xs e = put-short xs _ (omega (arith, frame-len _ xs e)) (omega (arith, frame-len _ xs e))
 
 pub slice_bounds-copy-end : goal.slice_bounds-copy-end
 slice_bounds-copy-end c =

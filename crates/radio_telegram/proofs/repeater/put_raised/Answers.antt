@@ -1,7 +1,6 @@
 -- `radio_telegram::repeater::put_raised` meets its contract: all before STATUS, the raised STATUS and HASH stand at the front.
 use Prim.Native.Nat.{◌-◌}
 use native.Mathlib.Omega.{arith}
-use borrow.Author.Rules.{rules}
 use lib.ListN.{length}
 use Rattle.radio_telegram.proofs.Repeating.{put-long, raised_put}
 use Rattle.radio_telegram.proofs.repeater.put_raised.Goals as goal

@@ -1,7 +1,6 @@
 -- `radio_telegram::repeater::raised_status` meets its contract: a level is below 16, so that one more fits a byte.
 use mathlib.Core.Path.{ap, ◌∙◌}
 use native.Mathlib.Omega.{arith}
-use borrow.Author.Rules.{rules}
 use Rattle.radio_erp1.specs.declared.status.Status.{Status}
 use Rattle.radio_erp1.specs.Status.{join_of}
 use Rattle.radio_telegram.specs.Repeater.{raise}

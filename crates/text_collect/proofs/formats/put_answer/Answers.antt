@@ -11,14 +11,8 @@ use Rattle.collector_state.specs.Admission.{relayed_for}
 use Rattle.base_buffers.proofs.Stores.{loosened, if_fits}
 use Rattle.collector_state.proofs.Sending.{relayed_fits}
 use Rattle.text_collect.proofs.Taking.{sent_front}
-use Rattle.text_collect.proofs.formats.put_answer.Lts as lts
-use Rattle.text_collect.proofs.formats.put_answer.Reads as reads
-use Rattle.text_collect.proofs.formats.put_answer.Tie as tie
 use Rattle.text_collect.proofs.formats.put_answer.Goals as goal
-
--- states on the way
-abbrev After-relay_kept-n : Type 0
-After-relay_kept-n = lts.After-relay_kept tie.the-claims reads.Pre reads.Post
+use Rattle.text_collect.proofs.formats.put_answer.Goals.{After-relay_kept-n}
 
 -- what is sent
 abbrev sent : After-relay_kept-n → List ℕ
@@ -41,33 +35,14 @@ full c =
 
 pub slice_bounds-put_row-end : goal.slice_bounds-put_row-end
 slice_bounds-put_row-end c =
-    let c_back3 = c.before.before.before in
-    omega (
-      arith,
-      (front c_back3.before).0,
-      short c_back3.before,
-      full
-          c_back3.before,
-    )
+    let k = (goal.at.slice_bounds-put_row-end c).After-relay_kept-n in
+    omega (arith, (front k).0, short k, full k)
 
 pub returns : goal.returns
 returns c =
-    let c_back3 = c.before.before.before in
-    let c_back6 = c_back3.before.before.before in
+    let k = (goal.at.returns c).After-relay_kept-n in
     let z : c.relay_kept-n.result - 0 ≡ c.relay_kept-n.result = omega arith in
     let pre = c.requires in
-    let fits = if_fits (omega (
-      arith,
-      pre.0,
-      pre.1,
-      pre.2,
-      (front c_back6.before.before).0,
-      short c_back6.before.before,
-    )) c.put_row.ensures in
-    loosened (rw (
-      c.row_of.ensures,
-      c.source_of-source.ensures,
-      z,
-      (front c_back6.before.before).1,
-    ) at fits)
-    (omega (arith, pre.0, pre.1, short c_back6.before.before))
+    let fits = if_fits (omega (arith, pre.0, pre.1, pre.2, (front k).0, short k)) c.put_row.ensures in
+    loosened (rw (c.row_of.ensures, c.source_of-source.ensures, z, (front k).1) at fits)
+    (omega (arith, pre.0, pre.1, short k))

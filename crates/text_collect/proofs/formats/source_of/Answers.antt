@@ -1,31 +1,32 @@
--- `text_collect::formats::source_of` meets its contract: the fields that were read.
-use mathlib.Core.Path.{◌≡◌, ap}
-use mathlib.Core.Bool.{Bool}
+-- `text_collect::formats::source_of` meets its contract: the fields that were read, or a refusal, whose number is not 0.
+use Rattle.std.specs.Prelude.{Option, Some, None, Err, cond, eqb}
+use mathlib.Core.Path.{◌≡◌, sym, ap, ◌∙◌}
 use mathlib.Core.List.{List}
 use Prim.Native.Nat.{ℕ}
-use lib.Dec.{eqb}
-use Rattle.radio_erp1.specs.declared.status.Status.{Status}
+use borrow.Author.Tests.{ne_eqb}
+use Rattle.base_refusal.specs.Number.{number_of}
+use Rattle.base_refusal.proofs.Numbers.{refused-number}
 use Rattle.radio_erp1.specs.Status.{split_of}
-use Rattle.radio_erp1.specs.Subtelegram.{checked_number}
-use Rattle.radio_telegram.specs.declared.fields.Reading.{Reading}
 use Rattle.radio_telegram.specs.Fields.{Read, shown_reading, read_of}
 use Rattle.text_rows.specs.declared.formats.Source.{Source}
 use Rattle.text_collect.specs.Formats.{source_of}
 use Rattle.text_collect.proofs.formats.source_of.Goals as goal
 
-abbrev source_by : Read → Source
+abbrev source_by : Read → Option Source
 source_by x =
     let t = x.telegram in
-    record { known = eqb x.number 0; txid = t.txid; rorg = t.rorg; level = (split_of t.status).level }
+    cond (eqb x.number 0) (Some (record { txid = t.txid; rorg = t.rorg; level = (split_of t.status).level })) None
 
-made : (bytes : List ℕ) (r : Reading) (known : Bool) (status : Status) → shown_reading r ≡ read_of bytes
-    → known ≡ eqb (checked_number r.checked) 0 → status ≡ split_of r.telegram.status
-    → record { known = known; txid = r.telegram.txid; rorg = r.telegram.rorg; level = status.level }
-    ≡ source_of bytes
+read_by : (bytes : List ℕ) {x : Read} → x ≡ read_of bytes → source_by x ≡ source_of bytes
 unfolding source_of read_of
-made bytes r known status e k s = rw (k, s) (ap source_by e)
+read_by bytes e = ap source_by e
+
+pub returns-in_default : goal.returns-in_default
+returns-in_default c =
+    let why = c.in_default.field-0 in
+    let none : source_by (shown_reading (Err why)) ≡ None = rw (ne_eqb (number_of why) 0 (refused-number why)) in
+    sym none ∙ read_by c.args.bytes.now (rw c.in_default.is at c.read.ensures)
 
 pub returns : goal.returns
 returns c =
-    made _ c.read-reading.result c.is_valid.result c.split-status.result
-    c.read-reading.ensures c.is_valid.ensures c.split-status.ensures
+    rw c.split-status.ensures (read_by c.args.bytes.now (rw c.in-Ok.is at c.read.ensures))

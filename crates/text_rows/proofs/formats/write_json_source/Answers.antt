@@ -1,28 +1,14 @@
 -- `text_rows::formats::write_json_source` meets its contract: where it is known, and where it is not.
-use mathlib.Core.Path.{◌≡◌, refl}
-use mathlib.Core.Bool.{true, false}
-use mathlib.Core.List.{[]}
+use mathlib.Core.Path.{refl}
 use native.Mathlib.Omega.{arith}
-use Rattle.text_rows.specs.Codes.{codes}
-use Rattle.text_rows.specs.declared.formats.Source.{Source}
-use Rattle.text_rows.specs.Formats.{source_after, json_source}
+use Rattle.text_rows.specs.Formats.{json_source}
 use Rattle.base_buffers.proofs.Stores.{loosened}
 use Rattle.text_rows.proofs.formats.write_json_source.Goals as goal
 
-is_known : (s : Source) → s.known ≡ true
-    → json_source s ≡ source_after (codes ",\"txid\":\"") (codes "\",\"rorg\":\"") (codes "\",\"level\":") s
+pub returns-in-Some : goal.returns-in-Some
 unfolding json_source
-is_known s e = rw e
+returns-in-Some c = rw c.in-Some.is (loosened c.write_source.ensures (omega arith))
 
-is_unknown : (s : Source) → s.known ≡ false → json_source s ≡ []
+pub returns-in-None : goal.returns-in-None
 unfolding json_source
-is_unknown s e = rw e
-
-pub returns-then-source : goal.returns-then-source
-returns-then-source c =
-    rw (is_known c.args.source c.if-source.true) (loosened c.write_source.ensures (omega arith))
-
-pub returns : goal.returns
-returns c =
-    rw (is_unknown c.args.source c.if-source.false)
-    (record { bytes = refl; next = omega arith; short = omega arith })
+returns-in-None c = rw c.in-None.is (record { bytes = refl; next = omega arith; short = omega arith })

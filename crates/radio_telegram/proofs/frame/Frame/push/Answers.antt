@@ -1,5 +1,4 @@
 -- `radio_telegram::frame::Frame::push` meets its contract.
-use borrow.Author.Rules.{rules}
 use Rattle.radio_telegram.proofs.Frames.{frame_push}
 use Rattle.radio_telegram.proofs.frame.Frame.push.Goals as goal
 

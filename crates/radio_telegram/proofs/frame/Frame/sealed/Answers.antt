@@ -10,11 +10,6 @@ use Rattle.radio_telegram.specs.Frame.{frame_of}
 use Rattle.radio_telegram.proofs.Frames.{frame-take}
 use Rattle.radio_telegram.proofs.frame.Frame.sealed.Goals as goal
 
-pub slice_bounds-bytes-end : goal.slice_bounds-bytes-end
-slice_bounds-bytes-end c =
-    let h : length c.args.self.bytes ≡ 21 = search rules in
-    omega arith
-
 pub slice_bounds-hash-end : goal.slice_bounds-hash-end
 slice_bounds-hash-end c =
     let h : length c.args.self.bytes ≡ 21 = search rules in
@@ -23,4 +18,4 @@ slice_bounds-hash-end c =
 pub returns : goal.returns
 returns c xs e =
     c.push.ensures.bytes xs e
-    ∙ ap (λ (h : ℕ). frame_of (xs ++ (h ∷ []))) (c.hash-h.ensures ∙ ap hash_of (frame-take _ xs e))
+    ∙ ap (λ (h : ℕ). frame_of (xs ++ (h ∷ []))) (c.hash.ensures ∙ ap hash_of (frame-take _ xs e))

@@ -1,7 +1,0 @@
--- `radio_erp2::optional_of` meets its contract.
-use Rattle.radio_telegram.proofs.Reading.{padded-copy}
-use Rattle.radio_erp2.proofs.optional_of.Goals as goal
-
-pub returns : goal.returns
-returns c =
-    padded-copy 15 c.args.part.now _ c.copy.ensures.1
