@@ -1,19 +1,20 @@
 -- A line of `line_limit` characters or more is BAD, whatever it holds, so its front says what it says.
-use Rattle.std.specs.Prelude.{None}
+use Rattle.std.specs.Prelude.{Option, Some, None}
 use mathlib.Core.Path.{◌≡◌, refl, sym, ap, ◌∙◌}
 use mathlib.Core.Bool.{Bool, true, false, cond, not, ◌&&◌, and-false}
 use mathlib.Core.List.{List, [], ◌∷◌}
-use Prim.Native.Nat.{ℕ, suc, ◌-◌, ◌^◌, ◌<◌, ◌≤◌}
+use Prim.Native.Nat.{ℕ, zero, suc, min, ◌-◌, ◌^◌, ◌<◌, ◌≤◌}
 use native.Mathlib.Omega.{arith}
 use native.Mathlib.Nat.{le_refl, mul-le-mul_right, pow-le-pow_right, one-mul}
 use lib.Dec.{eqb, leb, ltb, lit<}
 use lib.ListN.{length, take, drop, length-drop}
-use lib.Seq.{length-take-le, take_all}
-use borrow.Author.Tests.{le-ltb, eqb-false, leb-true, ltb-true, ltb-false}
-use Rattle.base_bytes.specs.Bytes.{index_of}
+use lib.Seq.{length-take-le, take_all, take-take}
+use borrow.Author.Tests.{le-ltb, lt-ltb, eqb-false, leb-true, ltb-true, ltb-false}
+use Rattle.std.proofs.lemmas.List.{length-take, take_min}
+use Rattle.base_bytes.specs.Bytes.{index_of, index_after}
 use Rattle.base_lists.specs.Lists.{all, equal}
 use Rattle.text_lines.specs.Ascii.{space, digit0}
-use Rattle.text_lines.specs.Decimal.{is_digit, decimal_of, is_number, is_time}
+use Rattle.text_lines.specs.Decimal.{is_digit, decimal_of, is_number, is_time, timed_of}
 use Rattle.text_lines.specs.Hex.{is_hex, hex_bytes}
 use Rattle.text_lines.specs.Reading.{reception, bad, line_reading, level_line, setting_of, line_limit}
 use Rattle.text_lines.specs.Claims.{LongLines, FrontsTell}
@@ -46,6 +47,67 @@ long-time (c ∷ d ∷ s) h = go (eqb c digit0) refl (leb digit0 c) refl
           and-false (ltb c 58 && all is_digit (d ∷ s)),
           and-false (some && true),
         )
+
+index-front : (b : ℕ) (l : List ℕ) (n : ℕ) → index_of b (take n l) ≡ min n (index_of b l)
+unfolding index_of index_after
+index-front b [] zero = omega arith
+index-front b [] (suc n) = omega arith
+index-front b (c ∷ l) zero = omega arith
+index-front b (c ∷ l) (suc n) = go (eqb c b) (index-front b l n)
+  where
+    go : (t : Bool) → index_of b (take n l) ≡ min n (index_of b l)
+        → index_after t (index_of b (take n l)) ≡ min (suc n) (index_after t (index_of b l))
+    go true h = omega arith
+    go false h = omega (arith, h)
+
+-- a time and the space after it are in the first 21 characters
+front_time : (l : List ℕ) → timed_of (take 21 l) ≡ timed_of l
+unfolding timed_of
+front_time l = go (ltb k 21) refl (ltb k (length l)) refl
+  where
+    k : ℕ
+    k = index_of space l
+
+    j : ℕ
+    j = index_of space (take 21 l)
+
+    time : ℕ → List ℕ → Bool → Option (ℕ × ℕ)
+    time i s t = cond (t && is_time (take i s)) (Some (decimal_of (take i s), i)) None
+
+    at : j ≡ min 21 k
+    at = index-front space l 21
+
+    size : length (take 21 l) ≡ min 21 (length l)
+    size = length-take 21 l
+
+    go : (t : Bool) → ltb k 21 ≡ t → (u : Bool) → ltb k (length l) ≡ u
+        → time j (take 21 l) (ltb j (length (take 21 l))) ≡ time k l (ltb k (length l))
+    go true p true q =
+        let a : k < 21 = ltb-true k 21 p in
+        let b : k < length l = ltb-true k (length l) q in
+        let e : j ≡ k = omega (arith, at) in
+        rw (e, lt-ltb k (length (take 21 l)) (omega (arith, size)), q, take-take k 21 l (omega arith))
+    go true p false q =
+        let a : k < 21 = ltb-true k 21 p in
+        let b : length l ≤ k = ltb-false k (length l) q in
+        rw (le-ltb j (length (take 21 l)) (omega (arith, at, size)), q)
+    go false p true q =
+        let a : 21 ≤ k = ltb-false k 21 p in
+        let b : k < length l = ltb-true k (length l) q in
+        let e : length (take k l) ≡ k = length-take-le k l (omega arith) in
+        rw (
+          le-ltb j (length (take 21 l)) (omega (arith, at, size)),
+          long-time (take k l) (omega (arith, e)),
+          and-false (ltb k (length l)),
+        )
+    go false p false q =
+        let a : 21 ≤ k = ltb-false k 21 p in
+        rw (le-ltb j (length (take 21 l)) (omega (arith, at, size)), q)
+
+pub front_of_text : (l : List ℕ) {n : ℕ} → n ≡ min (length l) 21 → timed_of (take n l) ≡ timed_of l
+front_of_text l {n} e =
+    let m : n ≡ min 21 (length l) = omega (arith, e) in
+    rw (m, take_min 21 l) (front_time l)
 
 long-line : (l : List ℕ) → line_limit ≤ length l → line_reading l ≡ bad
 unfolding line_reading

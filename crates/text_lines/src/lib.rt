@@ -132,8 +132,18 @@ fn thirteen(text: &[u8]) -> u64
     n
 }
 
-// Reads the time at the start of a text: digits up to the first character that is none, which must be a space.
+// The most characters of a time and the space after it: 2^64 - 1 has twenty digits.
+const TIME_LIMIT: usize = 21;
+
+// Reads the time at the start of a text. A line may be all digits, so only its front is looked at.
 fn read_time(text: &[u8]) -> Option<(u64, usize)>
+    ensures { result ≡ timed_of text.now }
+{
+    read_front(&text[..text.len().min(TIME_LIMIT)])
+}
+
+// The same: digits up to the first character that is none, which must be a space.
+fn read_front(text: &[u8]) -> Option<(u64, usize)>
     ensures { result ≡ timed_of text.now }
 {
     let end = text.iter().position(|c| !is_digit(*c))?;
