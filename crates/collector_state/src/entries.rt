@@ -222,7 +222,7 @@ fn credit(copies: &mut [u16; Collector::CAPACITY], heard: Option<usize>)
     ensures { copies.new ≡ credited heard copies.old }
 {
     if let Some(i) = heard {
-        copies[i] = copies[i].saturating_add(1);
+        copies[i] = copies[i].saturating_add(1).min(Collector::MAX_COPIES);
     }
 }
 
