@@ -2,10 +2,10 @@
 // Kept (code, buffer): the C interface takes arrays of numbers and a count in them, and gets the number of a refusal.
 #![tactic(auto)]
 
-ghost use Rattle.std.specs.Prelude.{◌≡◌, length};
+ghost use Rattle.std.specs.Prelude.{◌≡◌, List, ℕ, length};
 ghost use Rattle.collector_model.specs.Answer.{shown_of, shown_number};
 ghost use Rattle.collector_model.specs.Acceptable.{acceptable};
-ghost use Rattle.c_collector.specs.State.{arrays_in, arrays_held, SameLoans, summary_in, state_at, summary_numbers};
+ghost use Rattle.c_collector.specs.State.{arrays, arrays_in, arrays_held, SameLoans, summary_in, state_at, summary_numbers};
 ghost use Rattle.c_collector.specs.Calls.{kind_of, answer_number, Takes, TakesTold, Fresh, totals_call, copies_call};
 
 use base_refusal::Refusal;
@@ -134,13 +134,23 @@ impl<'a> Held<'a> {
     pub fn is_acceptable(self) -> bool
         ensures { result ≡ acceptable (state_at (arrays_held self.entry)) }
     {
-        acceptable::is_acceptable(
-            self.times,
-            self.lengths,
-            self.bytes,
-            summary_in(self.numbers),
-        )
+        is_acceptable(self.times, self.lengths, self.bytes, self.numbers)
     }
+}
+
+// Whether the state in these arrays is acceptable; its numbers of copies do not matter.
+// Kept (group): it takes four of the five arrays, so it can take no `Held`.
+pub fn is_acceptable<'a>(
+    times: &'a [u64; CAPACITY],
+    lengths: &'a [u8; CAPACITY],
+    bytes: &'a [u8; BYTES],
+    numbers: &'a [u64; NUMBERS],
+) -> bool
+    ensures { (copies : List ℕ) → result ≡ acceptable
+        (state_at (arrays times.now lengths.now bytes.now copies
+        numbers.now)) }
+{
+    acceptable::is_acceptable(times, lengths, bytes, summary_in(numbers))
 }
 
 // The summary in eight numbers. Its contract also says that there are eight: this is known for a slice, but not for a lent array.

@@ -1,13 +1,5 @@
--- `c_collector::Held::is_acceptable` meets its contract: the numbers are those of the state.
-use mathlib.Core.Path.{ap, ◌∙◌}
-use Rattle.collector_model.specs.Acceptable.{acceptable}
-use Rattle.collector_state.specs.declared.Summary.{Summary}
-use Rattle.collector_state.specs.Collector.{columns, view_in}
+-- `c_collector::Held::is_acceptable` meets its contract.
 use Rattle.c_collector.proofs.Held.is_acceptable.Goals as goal
 
 pub returns : goal.returns
-returns c =
-    let a = c.args.self in
-    c.is_acceptable.ensures a.copies.now
-    ∙ ap (λ (s : Summary). acceptable (view_in (columns a.times.now a.lengths.now a.bytes.now a.copies.now) s))
-    c.summary_in.ensures.0
+returns c = c.is_acceptable.ensures c.args.self.copies.now
