@@ -69,7 +69,7 @@ pub fn end(
         position.new numbers.new lines.new }
 {
     let a = adding_in(numbers, lines, adding, tally);
-    c_report::settle(a.end(), numbers, lines, position)
+    c_report::settle_report(a.end(), numbers, lines, position)
 }
 
 // The archive that is being added, from four arrays.

@@ -1,7 +1,7 @@
 -- Answers by their fields; a line and a share, by the number.
 use mathlib.Core.Path.{◌≡◌, refl, sym, ap, ◌∙◌, subst}
 use Rattle.std.specs.Prelude.{Result, Ok, Err}
-use mathlib.Core.List.{List}
+use mathlib.Core.List.{List, []}
 use Prim.Native.Nat.{ℕ}
 use borrow.Author.Tests.{ne_eqb}
 use Rattle.base_refusal.specs.Number.{number_of}
@@ -9,6 +9,7 @@ use Rattle.base_refusal.specs.declared.Refusal.{Refusal}
 use Rattle.base_refusal.specs.declared.Refusal.TheVariants.{Mismatch}
 use Rattle.base_refusal.proofs.Numbers.{refused-number}
 use Rattle.archive_file.specs.declared.ArchiveError.{ArchiveError}
+use Rattle.archive_file.specs.Archive.{append_result}
 use Rattle.archive_report_model.specs.Report as model
 use Rattle.archive_report.specs.declared.Report.{Report}
 use Rattle.archive_report.specs.Report.{report_of, added_result}
@@ -88,12 +89,9 @@ module _ (numbers lines : List ℕ) (position : ℕ) (answer : Result Report Arc
           lines_are = λ z. absurd (refused-number why (sym r.0 ∙ z));
         })
 
-    pub settled_refused : (why : Refusal) → answer ≡ Err (ArchiveError.Refused why)
-        → (number ≡ number_of why) × (position' ≡ if_mismatch (number_of why) 0 position)
+    pub settled_not : (e : ArchiveError) → answer ≡ Err e
+        → (number ≡ (append_result (Err e) []).number)
+        × (position' ≡ if_mismatch (append_result (Err e) []).number (append_result (Err e) []).position position)
         → SettlesReport answer numbers lines position number position' numbers lines
-    settled_refused why is r = kept why 0 (λ old. ap (added_result old) is) r
-
-    pub settled_damaged : (k : ℕ) → answer ≡ Err (ArchiveError.Damaged k)
-        → (number ≡ number_of Mismatch) × (position' ≡ if_mismatch (number_of Mismatch) k position)
-        → SettlesReport answer numbers lines position number position' numbers lines
-    settled_damaged k is r = kept Mismatch k (λ old. ap (added_result old) is) r
+    settled_not (ArchiveError.Damaged k) is r = kept Mismatch k (λ old. ap (added_result old) is) r
+    settled_not (ArchiveError.Refused why) is r = kept why 0 (λ old. ap (added_result old) is) r

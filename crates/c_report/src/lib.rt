@@ -2,9 +2,11 @@
 // Kept (code): the C interface: the calls answer by numbers.
 #![tactic(auto)]
 
-ghost use Rattle.std.specs.Prelude.{◌≡◌};
+ghost use Rattle.std.specs.Prelude.{◌≡◌, []};
+ghost use Rattle.archive_file.specs.Archive.{append_result};
 ghost use Rattle.archive_report_model.specs.Report as model;
 ghost use Rattle.archive_report.specs.Report.{report_of};
+ghost use Rattle.c_layout.specs.Lent.{if_mismatch};
 ghost use Rattle.c_report.specs.Calls.{report_at, report_numbers, empty_lines, lines_with, Adds, SettlesReport, line_call, share_call};
 
 use archive_file::ArchiveError;
@@ -40,7 +42,7 @@ pub fn add(
         numbers.old lines.old position.old result position.new
         numbers.new lines.new }
 {
-    settle(
+    settle_report(
         report_in(numbers, lines).add(buffer),
         numbers,
         lines,
@@ -116,8 +118,21 @@ pub fn store(r: Report, numbers: &mut [u64; NUMBERS], lines: &mut [u64; LINES])
     *lines = all;
 }
 
-// The number of an answer, and the position with 12; without a refusal the report is stored.
-pub fn settle(
+// The number of an outcome, and the position with 12.
+pub fn settle(outcome: Result<(), ArchiveError>, position: &mut usize) -> u8
+    ensures { (result ≡ (append_result outcome []).number)
+        × (position.new
+        ≡ if_mismatch (append_result outcome []).number (append_result outcome []).position position.old) }
+{
+    match outcome {
+        Ok(()) => 0,
+        Err(ArchiveError::Damaged(k)) => c_layout::refuse(Refusal::Mismatch, k, position),
+        Err(ArchiveError::Refused(why)) => c_layout::refuse(why, 0, position),
+    }
+}
+
+// The same of an answer that is a report: without a refusal it is stored.
+pub fn settle_report(
     answer: Result<Report, ArchiveError>,
     numbers: &mut [u64; NUMBERS],
     lines: &mut [u64; LINES],
@@ -130,7 +145,6 @@ pub fn settle(
             store(next, numbers, lines);
             0
         }
-        Err(ArchiveError::Damaged(k)) => c_layout::refuse(Refusal::Mismatch, k, position),
-        Err(ArchiveError::Refused(why)) => c_layout::refuse(why, 0, position),
+        Err(e) => settle(Err(e), position),
     }
 }

@@ -16,4 +16,4 @@ returns c =
     (λ z.
     c.add.ensures.lines_value
     ∙ ap₂ (λ (x : model.Report) (l : List ℕ). lines_added (model.add_of x buffer) l) r.0 r.1)
-    (c.settle.ensures c.report_in.result r.0)
+    (c.settle_report.ensures c.report_in.result r.0)

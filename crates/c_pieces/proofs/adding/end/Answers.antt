@@ -20,7 +20,7 @@ returns c =
     let was = adding_at c.args.numbers.now c.args.lines.now c.args.adding.now c.args.tally.now in
     let a = c.adding_in-a.result in
     let same = c.adding_in-a.ensures.0 in
-    let s = c.settle.ensures a.before (ap (λ (x : Adding). x.report) same) in
+    let s = c.settle_report.ensures a.before (ap (λ (x : Adding). x.report) same) in
     let is : added_result a.before c.end.result ≡ ended_of was =
     c.end.ensures.result_value ∙ ap (λ (x : Adding). ended_of x) same in
     -- where it is added, the lines of the report are those that were added to
