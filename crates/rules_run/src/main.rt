@@ -2,6 +2,8 @@
 // of the second program, which lists all plans.
 #![tactic(auto)]
 
+ghost use Rattle.std.specs.Prelude.{◌≤◌};
+
 use plan_slots::SlotPlan;
 use std::io;
 use std::io::{BufWriter, Write};
@@ -99,7 +101,9 @@ fn count(rule: u8, level: u8, number: u8, duration: u32) -> u64 {
 }
 
 // How many plans there are to try.
-fn candidates(number: u8) -> u32 {
+fn candidates(number: u8) -> u32
+    ensures { result ≤ 64_000 }
+{
     if number == 2 { 1600 } else { 64_000 }
 }
 
