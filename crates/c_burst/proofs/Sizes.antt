@@ -1,7 +1,4 @@
--- The tests of a burst's sizes and arguments, by what the code tests.
---     sized-other, sized_same, records-are       a frame for each moment, or not
---     call-short, call-many, call-setting, call-done     the number by its tests
---     called                        what a call without a refusal says of its numbers
+-- The test of a burst's sizes: a frame for each moment.
 use Prim.Native.Nat.{ℕ, ◌*◌}
 use mathlib.Core.Path.{◌≡◌}
 use mathlib.Core.Bool.{true}
