@@ -177,6 +177,8 @@ fn put_cells(out: &mut [u8], state: Held, first: usize, used: usize)
 }
 
 // Whether a state is acceptable, and an image is byte for byte what is written for it with this number in the setting's place.
+// Its image is on the stack only while it runs: as a part of `restore` it would be there all the time.
+#[inline(never)]
 fn is_image_of(image: &[u8], state: Held, setting: u64) -> bool
     ensures { result ≡ is_image_of setting (view_in (columns_held state.entry) state.entry.summary) image.now }
 {
@@ -208,7 +210,8 @@ fn is_readable(image: &[u8]) -> bool
     (count_in(image) <= Collector::CAPACITY) & (setting <= MAX_SETTING as u64)
 }
 
-// The state that an image gives, accepted or not.
+// The state that an image gives, accepted or not. It is no part of `restore` either, for the same reason.
+#[inline(never)]
 fn parse(image: &[u8]) -> Collector
     requires { (length image.now ≡ image_length) × (count_in image.now ≤ capacity) }
     ensures { Parses image.now result }

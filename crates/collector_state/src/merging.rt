@@ -20,7 +20,7 @@ impl<'a> Lent<'a> {
     // once. If it is false, if more than 64 entries are counted or if the totals do not add up, the answer is 11 and nothing is changed. With every
     // refusal the four arrays are unchanged, whatever `fit` is.
     // Kept (step): `fit` is what a test said of the state. The answer depends on it, and it chooses no step.
-    // As a part of its caller's loop it is a tenth faster: the summary is then in registers.
+    // A part of each of its callers: as a call of its own a reception takes 4 to 12 % more.
     #[inline(always)]
     pub fn admit(&mut self, fit: bool, received: &[u8], time: u64) -> Answer
         ensures admits { Admits fit (columns_lent self.old) self.old.summary
